@@ -1,0 +1,91 @@
+-- Faces taken out of a rising list of faces, and put into it.
+use Rattle.std.proofs.Common.{◌≡◌, ℕ, ◌+◌, ◌<◌, Result, Ok, Err, get_or, Bool, true, false, not, cond, ◌&&◌, ◌||◌, List, [], ◌∷◌, ◌++◌, length, take, filter, sym, ◌∙◌, ap, refl, is_ok, nat_eq, append_assoc, append-nil, subst}
+use Rattle.std.specs.List.{remove}
+use Rattle.std.specs.List.Sorted.{IsStrictlySortedBy, IsBinarySearchResult, IsSearchInRange}
+use Rattle.std.specs.Cmp.Lexicographic.{pointwise, texts_ties, nat_list_cmp_total, nat_list_eq_equiv}
+use Rattle.std.specs.Ordering.{eq_by_cmp}
+use Rattle.std.specs.Result.{MatchResult}
+use Rattle.std.proofs.lemmas.List.{take_more}
+use Rattle.std.proofs.lemmas.List.Folds.{list_any-append}
+use Rattle.std.proofs.lemmas.List.Kept.{IsStrictlySortedBy-filter}
+use Rattle.complex_core.specs.Labels.{face_cmp}
+use Rattle.complex_core.specs.Rising.{put, rising}
+use Rattle.complex_core.specs.Spaces.{is_facet, staying}
+use Rattle.complex_core.proofs.Sets.{sorted_put}
+use Rattle.complex_core.proofs.Searching.{Stands, Missing, searched_for, rising_push, rising_own}
+use Rattle.complex_core.proofs.Sorting.{exact_faces}
+use Rattle.complex_core.proofs.Laws.{listed-among}
+
+or_none : (b : Bool) → (b || false) ≡ b
+or_none true = refl
+or_none false = refl
+
+-- one taken out
+staying_one : (xs : List (List ℕ)) (x : List ℕ) → staying xs (x ∷ []) ≡ filter (λ y. not (eq_by_cmp face_cmp y x)) xs
+staying_one xs x =
+    let tie : (y : List ℕ) → (pointwise nat_eq x y || false) ≡ eq_by_cmp face_cmp y x = λ y. or_none (pointwise nat_eq x y) ∙ nat_list_eq_equiv.symm x y ∙ texts_ties y x in
+    λ i. filter (λ y. not (tie y i)) xs
+
+-- a search over a slice that shows the list
+pub search_face : (shown xs : List (List ℕ)) (x : List ℕ) (r : Result ℕ ℕ) → shown ≡ xs → IsStrictlySortedBy face_cmp xs → IsSearchInRange r (length shown) → IsBinarySearchResult (λ y. face_cmp y x) shown r → MatchResult r (Stands face_cmp xs x) (Missing face_cmp xs x)
+search_face shown xs x r e s =
+    let P : List (List ℕ) → Type 0 = λ ys. IsSearchInRange r (length ys) → IsBinarySearchResult (λ y. face_cmp y x) ys r → MatchResult r (Stands face_cmp xs x) (Missing face_cmp xs x) in
+    subst P (sym e) (searched_for nat_list_cmp_total exact_faces xs x r s)
+
+pub taken_out : (xs : List (List ℕ)) (x : List ℕ) (at : ℕ) → Stands face_cmp xs x at → remove xs at ≡ staying xs (x ∷ [])
+taken_out xs x at s = s.removed ∙ sym (staying_one xs x)
+
+pub nothing_out : (xs : List (List ℕ)) (x : List ℕ) (at : ℕ) → Missing face_cmp xs x at → xs ≡ staying xs (x ∷ [])
+nothing_out xs x at m = sym (staying_one xs x ∙ m.same)
+
+-- whether a face is listed, by a search
+pub facet_searched : (shown xs : List (List ℕ)) (x : List ℕ) (r : Result ℕ ℕ) → shown ≡ xs → IsStrictlySortedBy face_cmp xs → IsSearchInRange r (length shown) → IsBinarySearchResult (λ y. face_cmp y x) shown r → is_ok r ≡ is_facet xs x
+facet_searched shown xs x (Ok at) e s within found = let t : Stands face_cmp xs x at = search_face shown xs x (Ok at) e s within found in sym (sym (listed-among xs x) ∙ t.there)
+facet_searched shown xs x (Err at) e s within place = let t : Missing face_cmp xs x at = search_face shown xs x (Err at) e s within place in sym (sym (listed-among xs x) ∙ t.absent)
+
+-- two tests in a row
+twice_filtered : (p q : List ℕ → Bool) (xs : List (List ℕ)) → filter p (filter q xs) ≡ filter (λ x. q x && p x) xs
+twice_filtered p q [] = refl
+twice_filtered p q (x ∷ xs) =
+    elim (q x) as (λ b. filter p (cond b (x ∷ filter q xs) (filter q xs)) ≡ cond (b && p x) (x ∷ filter (λ y. q y && p y) xs) (filter (λ y. q y && p y) xs)) [
+      | true ↦ ap (λ ys. cond (p x) (x ∷ ys) ys) (twice_filtered p q xs)
+      | false ↦ twice_filtered p q xs
+    ]
+
+neither : (a b : Bool) → (not a && not b) ≡ not (a || b)
+neither true b = refl
+neither false b = refl
+
+-- one more taken out
+pub staying_next : (old sets new out : List (List ℕ)) (x : List ℕ) (i : ℕ) → i < length out → x ≡ get_or out i x → sets ≡ staying old (take i out) → new ≡ staying sets (x ∷ []) → new ≡ staying old (take (i + 1) out)
+staying_next old sets new out x i h item so_far step =
+    step ∙ ap (λ ys. staying ys (x ∷ [])) so_far
+    ∙ twice_filtered (λ f. not (is_facet (x ∷ []) f)) (λ f. not (is_facet (take i out) f)) old
+    ∙ (λ j. filter (λ f. neither (is_facet (take i out) f) (is_facet (x ∷ []) f) j) old)
+    ∙ (λ j. filter (λ f. not (sym (list_any-append (λ g. pointwise nat_eq g f) (take i out) (x ∷ [])) j)) old)
+    ∙ ap (λ y. staying old (take i out ++ y ∷ [])) item
+    ∙ ap (staying old) (sym (take_more out i x h))
+
+pub rising_staying : (sets new out : List (List ℕ)) → new ≡ staying sets out → IsStrictlySortedBy face_cmp sets → IsStrictlySortedBy face_cmp new
+rising_staying sets new out e s = let P : List (List ℕ) → Type 0 = λ ys. IsStrictlySortedBy face_cmp ys in subst P (sym e) (IsStrictlySortedBy-filter face_cmp (λ f. not (is_facet out f)) sets s)
+
+-- one more put in
+pub rising_next : (old sets new more : List (List ℕ)) (x : List ℕ) (i : ℕ) → i < length more → x ≡ get_or more i x → sets ≡ rising face_cmp (old ++ take i more) → new ≡ put face_cmp x sets → new ≡ rising face_cmp (old ++ take (i + 1) more)
+rising_next old sets new more x i h item so_far step =
+    step ∙ ap (put face_cmp x) so_far
+    ∙ sym (rising_push nat_list_cmp_total exact_faces (old ++ take i more) x)
+    ∙ ap (rising face_cmp) (append_assoc old (take i more) (x ∷ []) ∙ ap (λ y. old ++ (take i more ++ y ∷ [])) item ∙ ap (λ ys. old ++ ys) (sym (take_more more i x h)))
+
+pub rising_put : (sets new : List (List ℕ)) (x : List ℕ) → new ≡ put face_cmp x sets → IsStrictlySortedBy face_cmp sets → IsStrictlySortedBy face_cmp new
+rising_put sets new x e s = let P : List (List ℕ) → Type 0 = λ ys. IsStrictlySortedBy face_cmp ys in subst P (sym e) (sorted_put nat_list_cmp_total x sets s)
+
+pub rising_itself : (xs : List (List ℕ)) → IsStrictlySortedBy face_cmp xs → rising face_cmp xs ≡ xs
+rising_itself = rising_own nat_list_cmp_total exact_faces
+
+-- before the first
+pub staying_none : (xs : List (List ℕ)) → xs ≡ staying xs []
+staying_none [] = refl
+staying_none (x ∷ xs) = ap (λ ys. x ∷ ys) (staying_none xs)
+
+pub rising_start : (xs : List (List ℕ)) → IsStrictlySortedBy face_cmp xs → xs ≡ rising face_cmp (xs ++ [])
+rising_start xs s = sym (ap (rising face_cmp) (append-nil xs) ∙ rising_itself xs s)

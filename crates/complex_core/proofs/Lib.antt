@@ -1,0 +1,9 @@
+pub mod Sets
+pub mod Faces
+pub mod Sorting
+pub mod Laws
+pub mod SortAny
+pub mod Subsets
+pub mod Searching
+pub mod Exchanges
+pub mod Runs

@@ -1,0 +1,7 @@
+-- Faces and complexes as rising lists.
+pub mod Rising
+pub mod Labels
+pub mod FaceFaults
+pub mod Padding
+pub mod Spaces
+pub mod ComplexFaults
