@@ -1,0 +1,9 @@
+pub mod Links
+pub mod Legal
+pub mod Back
+pub mod Edges
+pub mod Near
+pub mod Lookups
+pub mod Replays
+pub mod Exchanges
+pub mod Journals
