@@ -1,0 +1,250 @@
+use super::*;
+use flip_io::{MemSink, MemSource};
+use std::alloc::{AllocError, Global};
+use std::test::Fail;
+
+const TET: &str = "[[1,2,3],[1,2,4],[1,3,4],[2,3,4]]\nbistellar 1 sphere\n";
+
+const OCT: &str =
+    "[[1,2,3],[1,2,4],[1,3,5],[1,4,5],[2,3,6],[2,4,6],[3,5,6],[4,5,6]]\nbistellar 1 sphere\n";
+
+const NO_FLIPS: &str = "\nbistellar 1 sphere\nflips 0\n";
+
+const FORM: &str = "bad input form\n";
+
+const WRONG_END: &str = "no\nwrong end\n";
+
+const USAGE: &str =
+    "usage: bistellar JOB [--workers N] [--seed N] [--rounds N] [--tries N] [--heat N] [--relax N] [--depth N] [--room N] [--kind NAME] [--dim N] [--draws N]\n";
+
+// Does the job of some words on a text. The source gives pieces of 8 bytes, the sink takes 4, and each fails at one call.
+fn run_words(
+    alloc: Global,
+    words: &[String],
+    text: &str,
+    read_fails: u64,
+    write_fails: u64,
+) -> Result<(Status, Vec<u8>), AllocError> {
+    let bytes = text.as_bytes().to_vec(alloc)?;
+    let mut source = MemSource::new(bytes, 8, vec![in alloc; read_fails]?);
+    let mut sink = MemSink::new(alloc, 1000, 4, vec![in alloc; write_fails]?)?;
+    let answer = run_job(alloc, words, &mut source, &mut sink);
+    Ok((answer.status, sink.bytes().to_vec(alloc)?))
+}
+
+fn run_failing(
+    alloc: Global,
+    text: &str,
+    read_fails: u64,
+    write_fails: u64,
+) -> Result<(Status, Vec<u8>), AllocError> {
+    let mut words = Vec::new(alloc);
+    words.push(String::from_str(alloc, "replay")?)?;
+    run_words(alloc, &words, text, read_fails, write_fails)
+}
+
+fn run(alloc: Global, text: &str) -> Result<(Status, Vec<u8>), AllocError> {
+    run_failing(alloc, text, 0, 0)
+}
+
+#[test]
+fn flips_are_replayed(rt: HostRuntime) -> Result<(), Fail> {
+    let three = "flips 3\n1 2 | 3 4\n1 | 3 4 5\n2 | 3 4 6\n";
+    let two = "flips 2\n1 2 | 3 4\n1 | 3 4 5\n";
+    let there_and_back = "flips 2\n1 2 3 | 5\n5 | 1 2 3\n";
+    let illegal = "flips 1\n1 2 | 3 4\n";
+    let (none, one) = ("yes\nflips 0\nfacets 4\n", "no\nflip 1 b-face\n");
+    let cases = [
+        (TET, "flips 0\n", 0, 0, Status::Yes, none),
+        (
+            TET,
+            there_and_back,
+            0,
+            0,
+            Status::Yes,
+            "yes\nflips 2\nfacets 4\n",
+        ),
+        (TET, illegal, 0, 0, Status::No, one),
+        (OCT, three, 0, 0, Status::Yes, "yes\nflips 3\nfacets 4\n"),
+        (OCT, two, 0, 0, Status::No, WRONG_END),
+        (OCT, three, 2, 0, Status::ReadFault, ""),
+        (TET, "flips 0\n", 0, 3, Status::WriteFault, "yes\nflip"),
+        (TET, "flips 1\n", 0, 0, Status::BadInput, FORM),
+    ];
+    for (complex, flips, read_fails, write_fails, status, text) in cases {
+        let input = format!(in rt.alloc(); "{complex}{flips}")?;
+        let (ended, written) = run_failing(rt.alloc(), &input, read_fails, write_fails)?;
+        assert_eq!(rt; ended, status, "at {flips}");
+        assert_eq!(rt; written.as_slice(), text.as_bytes());
+    }
+    Ok(())
+}
+
+#[test]
+fn a_part_of_an_input_is_none(rt: HostRuntime) -> Result<(), Fail> {
+    let input = format!(in rt.alloc(); "{OCT}flips 2\n1 2 | 3 4\n1 | 3 4 5\n")?;
+    for (end, _) in input.char_indices() {
+        let (status, written) = run(rt.alloc(), &input[..end])?;
+        assert_eq!(rt; status, Status::BadInput, "at {end}");
+        assert_eq!(rt; written.as_slice(), FORM.as_bytes());
+    }
+    Ok(())
+}
+
+#[test]
+fn each_read_and_each_write_can_fail(rt: HostRuntime) -> Result<(), Fail> {
+    // The text has 61 bytes, so 8 reads give it and one finds the end. The answer has 21, so 6 writes take it.
+    let input = format!(in rt.alloc(); "{TET}flips 0\n")?;
+    let text = "yes\nflips 0\nfacets 4\n";
+    for read in 1..10 {
+        let (status, written) = run_failing(rt.alloc(), &input, read, 0)?;
+        assert_eq!(rt; status, Status::ReadFault, "at {read}");
+        assert!(rt; written.is_empty());
+    }
+    for write in 1..7 {
+        let (status, written) = run_failing(rt.alloc(), &input, 0, write)?;
+        assert_eq!(rt; status, Status::WriteFault, "at {write}");
+        assert_eq!(rt;
+            written.as_slice(),
+            &text.as_bytes()[..4 * (write as usize - 1)]
+        );
+    }
+    let (status, written) = run_failing(rt.alloc(), &input, 10, 7)?;
+    assert_eq!(rt; status, Status::Yes);
+    assert_eq!(rt; written.as_slice(), text.as_bytes());
+    Ok(())
+}
+
+#[test]
+fn limits_hold_on_both_sides(rt: HostRuntime) -> Result<(), Fail> {
+    let seven =
+        "[[1,2,3,4,5,6,7],[1,2,3,4,5,6,8],[1,2,3,4,5,7,8],[1,2,3,4,6,7,8],[1,2,3,5,6,7,8],[1,2,4,5,6,7,8],[1,3,4,5,6,7,8],[2,3,4,5,6,7,8]]";
+    let tet = "[[1,2,3],[1,2,4],[1,3,4],[2,3,4]]";
+    let cases = [
+        ("[[1,60000]]", "flips 0\n", Status::No, WRONG_END),
+        ("[[1,60001]]", "flips 0\n", Status::BadInput, FORM),
+        ("[[0,1]]", "flips 0\n", Status::BadInput, FORM),
+        ("[[1],[2]]", "flips 0\n", Status::BadInput, FORM),
+        (seven, "flips 0\n", Status::Yes, "yes\nflips 0\nfacets 8\n"),
+        ("[[1,2,3,4,5,6,7,8]]", "flips 0\n", Status::BadInput, FORM),
+        (tet, "flips 1\n1 2 3 | 65000\n", Status::No, WRONG_END),
+        (tet, "flips 1\n1 2 3 | 65001\n", Status::BadInput, FORM),
+        (
+            tet,
+            "flips 1\n1 2 3 4 5 6 7 | 9\n",
+            Status::No,
+            "no\nflip 1 shape\n",
+        ),
+        (
+            tet,
+            "flips 1\n1 2 3 4 5 6 7 8 | 9\n",
+            Status::BadInput,
+            FORM,
+        ),
+        (
+            tet,
+            "flips 1\n5 | 1 2 3\n",
+            Status::No,
+            "no\nflip 1 no-face\n",
+        ),
+        (
+            tet,
+            "flips 1\n1 2 | 3 5\n",
+            Status::No,
+            "no\nflip 1 link-differs\n",
+        ),
+    ];
+    for (complex, flips, status, text) in cases {
+        let input = format!(in rt.alloc(); "{complex}\nbistellar 1 sphere\n{flips}")?;
+        let (ended, written) = run(rt.alloc(), &input)?;
+        assert_eq!(rt; ended, status, "at {complex} {flips}");
+        assert_eq!(rt; written.as_slice(), text.as_bytes());
+    }
+    Ok(())
+}
+
+// Adds an edge to the text of a graph.
+fn add_edge(text: &mut String, first: u32, second: u32) -> Result<(), AllocError> {
+    let before = if text.is_empty() { '[' } else { ',' };
+    text.push(before)?;
+    write!(text, "[{first},")?;
+    write!(text, "{second}]")?;
+    Ok(())
+}
+
+// So many edges of the complete graph on 201 vertices, and a certificate without flips.
+fn edges(alloc: Global, count: usize) -> Result<String, AllocError> {
+    let mut text = String::new(alloc);
+    let mut made = 0;
+    for first in 1..201 {
+        for second in first + 1..202 {
+            if made < count {
+                add_edge(&mut text, first, second)?;
+                made += 1;
+            }
+        }
+    }
+    text.push(']')?;
+    text.push_str(NO_FLIPS)?;
+    Ok(text)
+}
+
+// A path on so many vertices, and a certificate without flips.
+fn path(alloc: Global, count: u32) -> Result<String, AllocError> {
+    let mut text = String::new(alloc);
+    for first in 1..count {
+        add_edge(&mut text, first, first + 1)?;
+    }
+    text.push(']')?;
+    text.push_str(NO_FLIPS)?;
+    Ok(text)
+}
+
+#[test]
+fn facets_and_labels_are_limited(rt: HostRuntime) -> Result<(), Fail> {
+    let cases = [
+        (edges(rt.alloc(), 20_000)?, Status::No),
+        (edges(rt.alloc(), 20_001)?, Status::BadInput),
+        (path(rt.alloc(), 4_096)?, Status::No),
+        (path(rt.alloc(), 4_097)?, Status::BadInput),
+    ];
+    for (input, status) in &cases {
+        let (ended, _) = run(rt.alloc(), input)?;
+        assert_eq!(rt; ended, *status);
+    }
+    Ok(())
+}
+
+#[test]
+fn other_words_are_refused(rt: HostRuntime) -> Result<(), Fail> {
+    let cases = ["", "info", "replay ", "replay,replay"];
+    for case in cases {
+        let mut words = Vec::new(rt.alloc());
+        for word in case.split_terminator(',') {
+            words.push(String::from_str(rt.alloc(), word)?)?;
+        }
+        let (status, written) = run_words(rt.alloc(), &words, TET, 0, 0)?;
+        assert_eq!(rt; status, Status::Usage, "at {case}");
+        assert_eq!(rt; written.as_slice(), USAGE.as_bytes());
+    }
+    Ok(())
+}
+
+#[test]
+fn statuses_have_their_numbers(rt: HostRuntime) {
+    let statuses = [
+        (Status::Yes, 0),
+        (Status::No, 1),
+        (Status::Undecided, 2),
+        (Status::Usage, 3),
+        (Status::BadInput, 4),
+        (Status::ReadFault, 5),
+        (Status::WriteFault, 6),
+        (Status::NoMemory, 7),
+    ];
+    for (status, number) in statuses {
+        assert_eq!(rt; status.number(), number);
+    }
+    input_is_one();
+    answer_is_one();
+}
