@@ -1,20 +1,20 @@
-ghost use Rattle.std.specs.Prelude.{◌≡◌, ◌↔◌, IsOk, ◌≤◌, ◌<◌, ◌+◌, ◌-◌, ◌==◌, ◌&&◌, ◌||◌, not, nat_eq, length, map, take, Ok, OnOk, OnErr, IfErr};
-ghost use Rattle.std.specs.List.{list_any, list_all};
+ghost use Rattle.std.specs.Prelude.{◌≡◌, ◌↔◌, IsOk, ◌≤◌, ◌<◌, ◌+◌, ◌-◌, length, Ok, OnOk, OnErr, IfErr};
+ghost use Rattle.std.specs.List.{list_any};
 ghost use Rattle.std.specs.List.Sorted.{IsStrictlySortedBy};
-ghost use Rattle.std.specs.Cmp.Lexicographic.{pointwise};
-ghost use Rattle.complex_core.specs.Labels.{has, holds, union, without, face_cmp, IsFace};
-ghost use Rattle.complex_core.specs.Spaces.{Space, IsFacet, is_held, over};
-ghost use Rattle.flip_rules.specs.Flips.{sides, has_shape, link_fault, why, why_near, IsNear, flipped, FlipRefused, LeadsBack, CanPut, Legal, OfFaces};
+ghost use Rattle.complex_core.specs.Labels.{has, face_cmp, IsFace};
+ghost use Rattle.complex_core.specs.Spaces.{Space};
+ghost use Rattle.flip_rules.specs.Flips.{has_shape, link_fault, why, why_near, IsNear, flipped, FlipRefused, LeadsBack, CanPut, Legal, OfFaces};
 
 use crate::link::{are_sides, have_sides, is_held};
 use crate::sides::Sides;
 use complex_core::{Complex, Face};
 
-/// A bistellar flip: it takes out the facets that contain A, which are A with B less one label of B, and puts in B with A
-/// less one label of A.
+/// A bistellar flip: it takes out the facets that contain A, which are A with B less one label of
+/// B, and puts in B with A less one label of A.
 ///
-/// A and B have d + 2 labels together, in a complex of dimension d. These are Pachner's moves, as Bjoerner and Lutz use
-/// them in "Simplicial manifolds, bistellar flips and a 16-vertex triangulation of the Poincare homology 3-sphere" (2000).
+/// A and B have d + 2 labels together, in a complex of dimension d. These are Pachner's moves, as
+/// Bjoerner and Lutz use them in "Simplicial manifolds, bistellar flips and a 16-vertex
+/// triangulation of the Poincare homology 3-sphere" (2000).
 #[derive(Clone, Copy, PartialEq, Eq, PartialOrd, Ord, Hash, Default)]
 pub struct Flip {
     /// The face that is taken out. Its link is the boundary of B.
@@ -30,7 +30,8 @@ pub enum Illegal {
     Shape,
     /// No facet contains A.
     NotAFace,
-    /// The facets that contain A aren't exactly A with B less one label of B, one for each label of B.
+    /// The facets that contain A aren't exactly A with B less one label of B, one for each label of
+    /// B.
     LinkDiffers,
     /// Some facet contains B.
     BIsFace,
@@ -105,16 +106,17 @@ fn first_broken(dim: u32, near_a: &[Face], near_b: &[Face], flip: &Flip) -> Resu
 
 /// Tells the first rule that a flip breaks, from the facets near A and near B. It takes no memory.
 ///
-/// `near_a` is a rising run of facets that has all facets of a complex that contain A, and `near_b` one that has all those
-/// that contain B. Other facets in them change nothing. The answer is that of [`check`] on every such complex of this
-/// dimension.
+/// `near_a` is a rising run of facets that has all facets of a complex that contain A, and `near_b`
+/// one that has all those that contain B. Other facets in them change nothing. The answer is that
+/// of [`check`] on every such complex of this dimension.
 pub fn check_near(dim: u32, near_a: &[Face], near_b: &[Face], flip: &Flip) -> Result<(), Illegal>
     requires low { dim ≤ 6 }
     requires rising { IsStrictlySortedBy face_cmp near_a.now }
     ensures near { result ≡ why_near dim near_a.now near_b.now flip.now.a flip.now.b }
 
     // On every complex with these facets near A and B it is the first rule that the flip breaks.
-    ensures why { (k : Space) → IsNear k dim near_a.now near_b.now flip.now.a flip.now.b → result ≡ why k flip.now.a flip.now.b }
+    ensures why { (k : Space) → IsNear k dim near_a.now near_b.now flip.now.a flip.now.b →
+        result ≡ why k flip.now.a flip.now.b }
 
     // What a legal flip puts in are facets of that dimension.
     ensures facets { OnOk result (CanPut dim flip.now.a flip.now.b) }
@@ -125,7 +127,8 @@ pub fn check_near(dim: u32, near_a: &[Face], near_b: &[Face], flip: &Flip) -> Re
     first_broken(dim, near_a, near_b, flip)
 }
 
-/// Tells the first rule that a flip breaks on a complex. A flip is legal where it breaks none. It takes no memory.
+/// Tells the first rule that a flip breaks on a complex. A flip is legal where it breaks none. It
+/// takes no memory.
 pub fn check(complex: &Complex, flip: &Flip) -> Result<(), Illegal>
     ensures why { result ≡ why complex.now flip.now.a flip.now.b }
 
@@ -142,7 +145,8 @@ pub fn check(complex: &Complex, flip: &Flip) -> Result<(), Illegal>
     check_near(complex.dim(), near_a, near_b, flip)
 }
 
-/// The flip that leads back, (B, A). After a legal flip it is legal, and makes the complex that was before.
+/// The flip that leads back, (B, A). After a legal flip it is legal, and makes the complex that was
+/// before.
 pub fn inverse(flip: &Flip) -> Flip
     ensures a { result.a ≡ flip.now.b }
     ensures b { result.b ≡ flip.now.a }
@@ -154,8 +158,8 @@ pub fn inverse(flip: &Flip) -> Flip
     }
 }
 
-/// The index of a flip: the number of labels of B less 1, from 0. A legal flip of index i changes the number of facets by
-/// d - 2i, in dimension d.
+/// The index of a flip: the number of labels of B less 1, from 0. A legal flip of index i changes
+/// the number of facets by d - 2i, in dimension d.
 pub fn index(flip: &Flip) -> u32
     requires { 0 < length flip.now.b }
     ensures { result ≡ length flip.now.b - 1 }
@@ -163,12 +167,18 @@ pub fn index(flip: &Flip) -> u32
     flip.b.len() as u32 - 1
 }
 
-/// Makes a flip on a complex, or leaves the complex as it is: exactly where the flip breaks a rule, or for want of memory.
+/// Makes a flip on a complex, or leaves the complex as it is: exactly where the flip breaks a rule,
+/// or for want of memory.
 pub fn apply(complex: &mut Complex, flip: &Flip) -> Result<(), FlipFault>
     ensures legal { OnOk result (why complex.old flip.now.a flip.now.b ≡ Ok tt) }
     ensures ok { OnOk result (complex.new ≡ flipped complex.old flip.now.a flip.now.b) }
     ensures err { OnErr result (complex.new ≡ complex.old) }
     ensures why { IfErr result (FlipRefused (why complex.old flip.now.a flip.now.b)) }
+
+    // A flip that breaks a rule is always told which, also where memory is short.
+    ensures told { (e : Illegal) → why complex.old flip.now.a flip.now.b ≡ Err e →
+        result ≡ Err (FlipFault.Illegal e) }
+
     ensures faces { OfFaces flip.now }
 {
     if let Err(illegal) = check(complex, flip) {

@@ -36,7 +36,8 @@ impl Entry {
         seq: u32,
         flips: &[Flip],
     ) -> Result<Entry, AllocError>
-        ensures ok { IfOk result (λ e. e ≡ record { round = round; worker = worker; seq = seq; flips = flips.now }) }
+        ensures ok { IfOk result (λ e.
+            e ≡ record { round = round; worker = worker; seq = seq; flips = flips.now }) }
         ensures succeeds { length flips.now ≤ 4 → IsOk result }
     {
         let flips = SmallVec::from_slice(alloc, flips)?;
@@ -77,7 +78,8 @@ impl Entry {
     }
 }
 
-/// A journal: entries in the order in which they were written. Contracts see the list of the entries.
+/// A journal: entries in the order in which they were written. Contracts see the list of the
+/// entries.
 #[derive(Drop)]
 pub struct Journal {
     entries: Vec<Entry>,

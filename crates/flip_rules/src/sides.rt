@@ -5,8 +5,8 @@ ghost use Rattle.flip_rules.specs.Flips.{sides};
 use complex_core::Face;
 use std::marker::Model;
 
-// The sides of a first set with a second one: their union less one label of the second, for each of these. Contracts
-// see the list of the sides.
+// The sides of a first set with a second one: their union less one label of the second, for each of
+// these. Contracts see the list of the sides.
 #[derive(Drop)]
 pub(crate) struct Sides {
     all: [Face; 8],
