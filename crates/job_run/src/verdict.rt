@@ -18,6 +18,7 @@ pub(crate) enum Verdict {
 }
 
 /// Makes the flips one after another, and judges the end.
+#[tactic(auto, using(crate::proofs::Replays::first_illegal))]
 pub(crate) fn replay(complex: &mut Complex, flips: &[Flip]) -> Result<Verdict, AllocError>
     ensures { IfOk result (ComesTo complex.old flips.now complex.new) }
 {
