@@ -50,7 +50,7 @@ drop_failed true true c h = refl
 drop_failed true false c h = sym (h refl)
 drop_failed false b c h = refl
 
-both_false : {a b : Bool} → a ≡ false → b ≡ false → (a || b) ≡ false
+pub both_false : {a b : Bool} → a ≡ false → b ≡ false → (a || b) ≡ false
 both_false {a} {b} h g = ap (λ c. c || b) h ∙ g
 
 pub has-with : (xs : List ℕ) (x z : ℕ) → has (with xs x) z ≡ (nat_eq x z || has xs z)
@@ -188,7 +188,7 @@ some_has q (y ∷ ys) x t e = either (nat_eq y x) (has ys x) (q y || list_any q 
 
 -- ---- sizes
 
-length_put_le : (k : ℕ) (xs : List ℕ) → length (put nat_cmp k xs) ≤ length xs + 1
+pub length_put_le : (k : ℕ) (xs : List ℕ) → length (put nat_cmp k xs) ≤ length xs + 1
 length_put_le k [] = omega arith
 length_put_le k (x ∷ xs) =
     elim (nat_cmp k x) as (λ r. length (match_ordering r (k ∷ x ∷ xs) (x ∷ xs) (x ∷ put nat_cmp k xs)) ≤ length (x ∷ xs) + 1) [

@@ -7,3 +7,8 @@ pub mod Subsets
 pub mod Searching
 pub mod Exchanges
 pub mod Runs
+pub mod Pairs
+pub mod Images
+pub mod Places
+pub mod Renaming
+pub mod LinkFaces

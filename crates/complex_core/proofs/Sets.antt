@@ -231,3 +231,18 @@ module _ {K : Type 0} (R : K → K → Ordering) where
   pub some_rising : (ks : List K) → 0 < length ks → 0 < length (rising R ks)
   some_rising [] h = absurd (omega (arith, h))
   some_rising (k ∷ ks) h = some_put k (rising R ks)
+
+-- a test of the members, in an order at which only equal members tie
+module _ {K : Type 0} (R : K → K → Ordering) (exact : (x y : K) → R x y ≡ Equal → x ≡ y) (p : K → Bool) where
+  pub any-put : (k : K) (xs : List K) → list_any p (put R k xs) ≡ (p k || list_any p xs)
+  any-put k [] = refl
+  any-put k (x ∷ xs) =
+      elim (R k x) as (λ r. R k x ≡ r → list_any p (match_ordering r (k ∷ x ∷ xs) (x ∷ xs) (x ∷ put R k xs)) ≡ (p k || list_any p (x ∷ xs))) [
+        | Less ↦ λ _. refl
+        | Equal ↦ λ e. or_twice (p k) (p x) (list_any p xs) (ap p (exact k x e))
+        | Greater ↦ λ _. ap (λ b. p x || b) (any-put k xs) ∙ or_swap (p x) (p k) (list_any p xs)
+      ] refl
+
+  pub any-rising : (ks : List K) → list_any p (rising R ks) ≡ list_any p ks
+  any-rising [] = refl
+  any-rising (k ∷ ks) = any-put k (rising R ks) ∙ ap (λ b. p k || b) (any-rising ks)

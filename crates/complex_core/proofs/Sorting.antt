@@ -62,9 +62,20 @@ each_filter : {K : Type 0} (P : K → Type 0) (p : K → Bool) (xs : List K) →
 each_filter P p [] h = tt
 each_filter P p (x ∷ xs) h = elim (p x) as (λ b. AllByRecursion P (cond b (x ∷ filter p xs) (filter p xs))) [ true ↦ (h.0, each_filter P p xs h.1) | false ↦ each_filter P p xs h.1 ]
 
-each_append : {K : Type 0} (P : K → Type 0) (xs ys : List K) → AllByRecursion P xs → AllByRecursion P ys → AllByRecursion P (xs ++ ys)
+pub each_append : {K : Type 0} (P : K → Type 0) (xs ys : List K) → AllByRecursion P xs → AllByRecursion P ys → AllByRecursion P (xs ++ ys)
 each_append P [] ys h g = g
 each_append P (x ∷ xs) ys h g = (h.0, each_append P xs ys h.1 g)
+
+-- the complex of facets of one size
+pub sorted_complex : (d : ℕ) (ks new : List (List ℕ)) → new ≡ rising face_cmp ks → d ≤ 6 → 0 < length ks → AllByRecursion (IsFacet d) ks → IsComplex (record { dim = d; facets = new })
+sorted_complex d ks new e low some pure =
+    let P : List (List ℕ) → Type 0 = λ fs. IsComplex (record { dim = d; facets = fs }) in
+    subst P (sym e) (record {
+      low = low;
+      some = some_rising face_cmp ks some;
+      rising = sorted_rising nat_list_cmp_total ks;
+      pure = each_rising face_cmp (IsFacet d) ks pure;
+    })
 
 -- a complex after an exchange
 pub exchanged : (p : List ℕ → Bool) (d : ℕ) (facets more : List (List ℕ)) → IsComplex (record { dim = d; facets = facets }) → 0 < length more → AllByRecursion (IsFacet d) more → IsComplex (record { dim = d; facets = rising face_cmp (filter p facets ++ more) })

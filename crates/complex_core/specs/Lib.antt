@@ -5,3 +5,6 @@ pub mod FaceFaults
 pub mod Padding
 pub mod Spaces
 pub mod ComplexFaults
+pub mod Maps
+pub mod MapFaults
+pub mod Links

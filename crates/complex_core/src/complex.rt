@@ -166,6 +166,22 @@ impl Complex {
         })
     }
 
+    // The complex of facets that all have one label more than the dimension.
+    pub(crate) fn sorted(dim: u32, mut facets: Vec<Face>) -> Complex
+        requires low { dim ≤ 6 }
+        requires some { 0 < length facets.items }
+        requires pure { AllByRecursion (IsFacet dim) facets.items }
+        ensures { result ≡ record { dim = dim; facets = rising face_cmp facets.items } }
+    {
+        sort_sets(&mut facets);
+        Complex { dim, facets }
+    }
+
+    // Where its memory comes from.
+    pub(crate) fn allocator(&self) -> Global {
+        *self.facets.allocator()
+    }
+
     /// The dimension: one less than the number of labels of a facet.
     pub fn dim(&self) -> u32
         ensures dim { result ≡ self.now.dim }

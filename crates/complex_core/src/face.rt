@@ -7,6 +7,7 @@ ghost use Rattle.std.specs.Cmp.Rules.{hashing};
 ghost use Rattle.std.specs.Hash as fed;
 ghost use Rattle.std.proofs.Common.{rules};
 ghost use Rattle.complex_core.specs.Labels.{IsFace, has, holds, with, without, union};
+ghost use Rattle.complex_core.specs.Links.{less};
 ghost use Rattle.complex_core.specs.FaceFaults.{FaceRefused};
 
 use std::cmp::Ordering;
@@ -202,6 +203,17 @@ impl Face {
             }
         }
         Some(all)
+    }
+
+    /// The labels that aren't in the other face.
+    pub fn less(&self, other: &Face) -> Face
+        ensures { result ≡ less self.now other.now }
+    {
+        let mut all = *self;
+        for label in other.labels() {
+            all = all.without(*label);
+        }
+        all
     }
 
     /// The labels, rising.

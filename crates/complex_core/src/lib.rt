@@ -4,9 +4,13 @@
 
 mod complex;
 mod face;
+mod link;
+mod map;
+mod relabel;
 
 pub use complex::{Complex, ComplexFault};
 pub use face::{Face, FaceFault};
+pub use map::{MapFault, VertexMap};
 
 #[cfg(test)]
 mod tests;

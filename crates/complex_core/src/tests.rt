@@ -150,3 +150,62 @@ fn faces_are_keys_of_sets(rt: HostRuntime) -> Result<(), Fail> {
     assert!(rt; ordered.last() == Some(&Face::from_slice(&[2])?));
     Ok(())
 }
+
+#[test]
+fn pairs_make_a_map_or_the_first_that_repeats(rt: HostRuntime) -> Result<(), Fail> {
+    let map = VertexMap::from_pairs(rt.alloc(), &[(3, 1), (1, 7)])?;
+    assert_eq!(rt; map.pairs(), [(1, 7), (3, 1)].as_slice());
+    assert_eq!(rt;
+        (map.get(1), map.get(2), map.get(3)),
+        (Some(7), None, Some(1))
+    );
+    assert_eq!(rt; map.inverse()?.pairs(), [(1, 3), (7, 1)].as_slice());
+    let first = VertexMap::from_pairs(rt.alloc(), &[(1, 2), (2, 1), (1, 3), (4, 1)]);
+    assert!(rt; matches!(first, Err(MapFault::Twice(2))));
+    let second = VertexMap::from_pairs(rt.alloc(), &[(1, 2), (3, 2)]);
+    assert!(rt; matches!(second, Err(MapFault::Twice(1))));
+    Ok(())
+}
+
+#[test]
+fn a_square_takes_the_labels_of_a_map(rt: HostRuntime) -> Result<(), Fail> {
+    let square = complex(rt.alloc(), &[&[1, 2], &[2, 3], &[3, 4], &[1, 4]])?;
+    let whole = VertexMap::from_pairs(rt.alloc(), &[(1, 6), (2, 5), (3, 8), (4, 7)])?;
+    let wanted = faces(rt.alloc(), &[&[5, 6], &[5, 8], &[6, 7], &[7, 8]])?;
+    match square.relabel(&whole)? {
+        Some(image) => assert!(rt; image.facets() == wanted.as_slice()),
+        None => panic!(rt; "each label has a pair"),
+    }
+    let part = VertexMap::from_pairs(rt.alloc(), &[(1, 6), (2, 5), (4, 7)])?;
+    assert!(rt; square.relabel(&part)?.is_none());
+    Ok(())
+}
+
+#[test]
+fn a_dense_complex_has_the_labels_from_one_on(rt: HostRuntime) -> Result<(), Fail> {
+    let triangle = complex(rt.alloc(), &[&[7, 30], &[30, 41], &[7, 41]])?;
+    let labels = triangle.labels()?;
+    assert!(rt; !labels.is_empty());
+    assert!(rt; labels[labels.len() - 1] < 60_000);
+    let (dense, names) = triangle.dense(2)?;
+    let wanted = faces(rt.alloc(), &[&[1, 2], &[1, 3], &[2, 3]])?;
+    assert!(rt; dense.facets() == wanted.as_slice());
+    let places = [(1, 7), (2, 30), (3, 41), (4, 42), (5, 43)];
+    assert_eq!(rt; names.pairs(), places.as_slice());
+    Ok(())
+}
+
+#[test]
+fn the_link_of_a_vertex_of_the_octahedron_is_a_square(rt: HostRuntime) -> Result<(), Fail> {
+    let octahedron = complex(rt.alloc(), &OCTAHEDRON)?;
+    let vertex = Face::from_slice(&[1])?;
+    let opposite = Face::from_slice(&[1, 6])?;
+    assert!(rt; octahedron.dim() == 2 && vertex.len() == 1 && opposite.len() == 2);
+    let wanted = faces(rt.alloc(), &[&[2, 3], &[2, 4], &[3, 5], &[4, 5]])?;
+    match octahedron.link(&vertex)? {
+        Some(link) => assert!(rt; link.dim() == 1 && link.facets() == wanted.as_slice()),
+        None => panic!(rt; "1 is a face"),
+    }
+    assert!(rt; octahedron.link(&opposite)?.is_none());
+    Ok(())
+}
