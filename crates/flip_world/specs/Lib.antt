@@ -1,0 +1,8 @@
+-- The core of claims, flips, rollbacks and commits.
+pub mod Cores
+pub mod Steps
+pub mod Serials
+pub mod Runs
+pub mod Drafts
+pub mod Worlds
+pub mod Labels

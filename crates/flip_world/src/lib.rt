@@ -1,0 +1,14 @@
+//! The core of claims, flips, rollbacks and commits: a state machine over events.
+#![tactic(auto)]
+
+mod draft;
+mod event;
+mod judge;
+mod laws;
+#[cfg(test)]
+mod tests;
+mod world;
+
+pub use event::{Event, Refused, StepFault, Told};
+pub use laws::{rollbacks_leave_no_trace, runs_are_serial};
+pub use world::World;

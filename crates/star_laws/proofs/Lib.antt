@@ -1,0 +1,2 @@
+pub mod FlipStars
+pub mod ReplayStars

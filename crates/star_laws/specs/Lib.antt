@@ -1,0 +1,3 @@
+-- What flips do to the stars of labels.
+pub mod Stars
+pub mod Laws
