@@ -12,3 +12,5 @@ pub mod Images
 pub mod Places
 pub mod Renaming
 pub mod LinkFaces
+pub mod SubsetLists
+pub mod Combinations

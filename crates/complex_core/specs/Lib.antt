@@ -8,3 +8,4 @@ pub mod ComplexFaults
 pub mod Maps
 pub mod MapFaults
 pub mod Links
+pub mod Subsets

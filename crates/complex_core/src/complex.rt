@@ -97,8 +97,8 @@ fn take_out(sets: &mut Vec<Face>, set: &Face)
     }
 }
 
-// Takes each of some sets out of a rising list.
-fn take_all_out(sets: &mut Vec<Face>, out: &[Face])
+/// Takes each of some sets out of a rising list.
+pub fn take_all_out(sets: &mut Vec<Face>, out: &[Face])
     requires { IsStrictlySortedBy face_cmp sets.old.items }
     ensures items { sets.new.items ≡ staying sets.old.items out.now }
     ensures rising { IsStrictlySortedBy face_cmp sets.new.items }
@@ -123,8 +123,8 @@ fn put_in(sets: &mut Vec<Face>, set: &Face)
     }
 }
 
-// Puts each of some sets into its place.
-fn put_all_in(sets: &mut Vec<Face>, more: &[Face])
+/// Puts each of some sets into its place in a rising list that has room for them.
+pub fn put_all_in(sets: &mut Vec<Face>, more: &[Face])
     requires rising { IsStrictlySortedBy face_cmp sets.old.items }
     requires room { vec_len sets.old + length more.now ≤ vec_capacity sets.old }
     ensures { sets.new.items ≡ rising face_cmp (sets.old.items ++ more.now) }

@@ -93,7 +93,7 @@ impl Face {
     }
 
     // Adds labels behind the others.
-    fn extend(&mut self, labels: &[u16])
+    pub(crate) fn extend(&mut self, labels: &[u16])
         requires { IsFace (self.old ++ labels.now) }
         ensures { self.new ≡ self.old ++ labels.now }
     {

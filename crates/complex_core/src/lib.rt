@@ -7,8 +7,9 @@ mod face;
 mod link;
 mod map;
 mod relabel;
+mod subset;
 
-pub use complex::{Complex, ComplexFault};
+pub use complex::{Complex, ComplexFault, put_all_in, take_all_out};
 pub use face::{Face, FaceFault};
 pub use map::{MapFault, VertexMap};
 

@@ -209,3 +209,20 @@ fn the_link_of_a_vertex_of_the_octahedron_is_a_square(rt: HostRuntime) -> Result
     assert!(rt; octahedron.link(&opposite)?.is_none());
     Ok(())
 }
+
+#[test]
+fn a_triangle_has_one_three_three_and_one_subsets(rt: HostRuntime) -> Result<(), Fail> {
+    let triangle = Face::from_slice(&[1, 2, 4])?;
+    let rows: [&[&[u16]]; 5] = [
+        &[&[]],
+        &[&[1], &[2], &[4]],
+        &[&[1, 2], &[1, 4], &[2, 4]],
+        &[&[1, 2, 4]],
+        &[],
+    ];
+    for (size, sets) in rows.into_iter().enumerate() {
+        let wanted = faces(rt.alloc(), sets)?;
+        assert!(rt; triangle.subsets(rt.alloc(), size)?.as_slice() == wanted.as_slice());
+    }
+    Ok(())
+}
