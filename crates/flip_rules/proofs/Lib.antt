@@ -3,7 +3,6 @@ pub mod Legal
 pub mod Back
 pub mod Edges
 pub mod Near
-pub mod Lookups
 pub mod Replays
 pub mod Exchanges
 pub mod Journals

@@ -1,4 +1,5 @@
-ghost use Rattle.std.specs.Prelude.{◌≡◌, ◌≤◌, [], ◌∷◌, ◌++◌, length, IsOk, IfOk, OnOk, OnErr};
+ghost use Rattle.std.specs.Prelude.{◌≡◌, ◌≤◌, ◌-◌, [], ◌∷◌, ◌++◌, length, take, IsOk, IfOk, OnOk, OnErr};
+ghost use Rattle.std.specs.Option.{option_to_list};
 
 use crate::flip::Flip;
 use smallvec::SmallVec;
@@ -118,5 +119,13 @@ impl Journal {
     {
         self.entries.push(entry)?;
         Ok(())
+    }
+
+    /// Takes the last entry back. A journal without entries has none, and stays as it is.
+    pub fn pop(&mut self) -> Option<Entry>
+        ensures rest { self.new ≡ take (length self.old - 1) self.old }
+        ensures last { self.old ≡ self.new ++ option_to_list result }
+    {
+        self.entries.pop()
     }
 }

@@ -155,3 +155,18 @@ fn a_journal_keeps_its_entries_in_order(rt: HostRuntime) -> Result<(), Fail> {
     assert_eq!(rt; (later.round(), later.worker(), later.seq()), (7, 1, 3));
     Ok(())
 }
+
+#[test]
+fn the_last_entry_of_a_journal_is_taken_back(rt: HostRuntime) -> Result<(), Fail> {
+    let flips = [flip(&[1, 2, 3], &[5])?];
+    let mut journal = Journal::new(rt.alloc());
+    for seq in 0..2 {
+        let entry = Entry::new(rt.alloc(), 7, 1, seq, &flips)?;
+        journal.push(entry)?;
+    }
+    for (seq, left) in [(Some(1), 1), (Some(0), 0), (None, 0)] {
+        assert_eq!(rt; journal.pop().map(|entry| entry.seq()), seq);
+        assert_eq!(rt; journal.entries().len(), left);
+    }
+    Ok(())
+}

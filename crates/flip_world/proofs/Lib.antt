@@ -5,3 +5,4 @@ pub mod Runs
 pub mod Labels
 pub mod Parts
 pub mod Growth
+pub mod OneStep

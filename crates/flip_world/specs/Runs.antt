@@ -1,5 +1,5 @@
 -- Any number of events, one after another.
-use Rattle.std.specs.Prelude.{◌≡◌, ℕ, List, [], ◌∷◌, Result}
+use Rattle.std.specs.Prelude.{◌≡◌, ℕ, List, [], ◌∷◌, map, Result}
 use Rattle.std.specs.List.{AllByRecursion}
 use Rattle.complex_core.specs.Labels.{IsFace}
 use Rattle.complex_core.specs.Spaces.{Space, IsComplex}
@@ -40,3 +40,11 @@ pub record SameButPending (c next : Core) : Type 0 where
 -- a rollback leaves no trace: journal, complex and owners stay
 abbrev pub RollbacksLeaveNoTrace : Type 0
 RollbacksLeaveNoTrace = (c next : Core) (worker : ℕ) (answer : Result Told Refused) → Step c (event.Rollback worker) answer next → SameButPending c next
+
+-- an event has one answer, and leads to one core
+abbrev pub StepIsOne : Type 0
+StepIsOne = (c n m : Core) (e : Event) (a b : Result Told Refused) → Step c e a n → Step c e b m → (a ≡ b) × (n ≡ m)
+
+-- so two runs from the same core over the same events are the same
+abbrev pub RunsAreOne : Type 0
+RunsAreOne = (c : Core) (ts us : List Turn) → IsRun c ts → IsRun c us → map (λ (t : Turn). t.event) ts ≡ map (λ (t : Turn). t.event) us → ts ≡ us

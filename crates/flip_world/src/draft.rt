@@ -7,7 +7,7 @@ ghost use Rattle.flip_rules.specs.Flips.{sides, replay};
 ghost use Rattle.flip_world.specs.Cores.{after};
 ghost use Rattle.flip_world.specs.Drafts.{SeenOver};
 
-use complex_core::{Complex, Face};
+use complex_core::{Complex, Face, put_all_in, take_all_out};
 use flip_rules::Flip;
 use std::alloc::{AllocError, Global};
 use std::marker::Model;
@@ -89,16 +89,6 @@ fn keep_apart(alloc: Global, sets: &[Face], out: &[Face]) -> Result<Vec<Face>, A
         .collect(alloc)
 }
 
-// The sets that aren't among others, which are few.
-fn keep_staying(alloc: Global, sets: &[Face], out: &[Face]) -> Result<Vec<Face>, AllocError>
-    ensures { IfOk result (λ v. v.items ≡ staying sets.now out.now) }
-{
-    sets.iter()
-        .copied()
-        .filter(|set| !out.contains(set))
-        .collect(alloc)
-}
-
 // The sets that contain one.
 fn keep_over(alloc: Global, sets: &[Face], set: &Face) -> Result<Vec<Face>, AllocError>
     ensures { IfOk result (λ v. v.items ≡ over sets.now set.now) }
@@ -150,12 +140,13 @@ impl Draft {
         let alloc = *self.flips.allocator();
         let old_sides = all_sides(alloc, &flip.a, &flip.b)?;
         let new_sides = all_sides(alloc, &flip.b, &flip.a)?;
-        let out = joined(alloc, &self.out, &old_sides)?;
-        let left = keep_staying(alloc, &self.more, &old_sides)?;
-        let more = joined(alloc, &left, &new_sides)?;
+        // Room first, so that nothing is changed where there is none.
+        self.out.reserve(old_sides.len())?;
+        self.more.reserve(new_sides.len())?;
         self.flips.push(*flip)?;
-        self.out = out;
-        self.more = more;
+        put_all_in(&mut self.out, &old_sides);
+        take_all_out(&mut self.more, &old_sides);
+        put_all_in(&mut self.more, &new_sides);
         Ok(())
     }
 

@@ -10,5 +10,5 @@ mod tests;
 mod world;
 
 pub use event::{Event, Refused, StepFault, Told};
-pub use laws::{rollbacks_leave_no_trace, runs_are_serial};
+pub use laws::{rollbacks_leave_no_trace, runs_are_one, runs_are_serial, steps_are_one};
 pub use world::World;

@@ -283,10 +283,14 @@ impl World {
         }
         let seq = self.written[seat];
         let entry = Entry::new(alloc, 0, worker, seq, self.drafts[seat].flips())?;
-        let mut next = self.complex.copy()?;
-        self.drafts[seat].make(&mut next)?;
         self.journal.push(entry)?;
-        self.complex = next;
+        match self.drafts[seat].make(&mut self.complex) {
+            Ok(()) => {}
+            Err(_) => {
+                let _ = self.journal.pop();
+                return Err(StepFault::Memory);
+            }
+        }
         self.drafts[seat].clear();
         self.written[seat] = seq + 1;
         self.owners[0] = 0;

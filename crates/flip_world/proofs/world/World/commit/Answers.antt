@@ -1,6 +1,4 @@
-use Rattle.std.proofs.Common.{◌∙◌, ap, arith}
-use Rattle.complex_core.specs.Spaces.{Space}
-use Rattle.flip_world.specs.Cores.{after}
+use Rattle.std.proofs.Common.{arith}
 use Rattle.flip_world.proofs.Parts.{seq_fits, commit_parts}
 use Rattle.flip_world.proofs.world.World.commit.Goals as goal
 
@@ -13,7 +11,7 @@ invariant_of-self-2 c = commit_parts _ _ _ _ _ c.args.worker c.index-seq.result.
     c.flips-2.ensures
     c.index-3.ensures
     c.index-4.ensures
-    (c.in_ok-make.ensures.ok ∙ ap (λ (k : Space). after k c.index-4.result.now) c.in_ok-next.ensures)
+    c.in-Ok.ensures.ok
     c.clear.ensures
     c.in_ok-entry.ensures.ok
     c.in_ok-push.ensures.ok
