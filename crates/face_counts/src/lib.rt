@@ -1,0 +1,11 @@
+//! How many faces a complex has of each size, and its Euler characteristic.
+#![tactic(auto)]
+
+mod count;
+mod laws;
+
+pub use count::{counts, euler};
+pub use laws::{euler_law, faces_law};
+
+#[cfg(test)]
+mod tests;
