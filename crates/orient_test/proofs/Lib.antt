@@ -1,0 +1,5 @@
+pub mod Chains
+pub mod Neighbours
+pub mod Trees
+pub mod Reaching
+pub mod Orienting

@@ -1,0 +1,5 @@
+-- Signs of facets.
+pub mod Signs
+pub mod Walks
+pub mod Spreads
+pub mod Answers

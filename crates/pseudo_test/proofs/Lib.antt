@@ -1,0 +1,4 @@
+pub mod Subsets
+pub mod Sided
+pub mod Counted
+pub mod Spreading

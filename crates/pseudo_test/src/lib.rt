@@ -1,0 +1,14 @@
+//! Tests of pseudomanifolds: in how many facets each ridge lies, and whether chains of facets
+//! that share ridges join all facets.
+#![tactic(auto)]
+
+mod chains;
+mod ridges;
+mod sides;
+
+pub use chains::{Apart, strong};
+pub use ridges::{Ridge, closed, thin};
+pub use sides::{all_sides, over};
+
+#[cfg(test)]
+mod tests;
