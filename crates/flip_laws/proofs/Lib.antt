@@ -1,0 +1,15 @@
+pub mod Exchange
+pub mod Counting
+pub mod RidgesKept
+pub mod ChainsKept
+pub mod Totals
+pub mod EulerKept
+pub mod SignsKept
+pub mod Replays
+pub mod Simplices
+pub mod SimplexEuler
+pub mod Reaching
+pub mod Images
+pub mod Renaming
+pub mod RenamedEuler
+pub mod Equals

@@ -1,0 +1,43 @@
+-- What a legal flip keeps of a complex, in both directions, and so every replay.
+use Rattle.std.specs.Prelude.{◌≡◌, ◌↔◌, ℕ, List, [], ◌∷◌, ◌++◌, nat_eq, filter, map, Some}
+use Rattle.std.specs.List.{AllByRecursion, flat_map}
+use Rattle.complex_core.specs.Labels.{without, face_cmp}
+use Rattle.complex_core.specs.Rising.{rising}
+use Rattle.complex_core.specs.Spaces.{Space, IsComplex}
+use Rattle.face_counts.specs.Eulers.{euler}
+use Rattle.pseudo_test.specs.Ridges.{count, Closed, Thin}
+use Rattle.pseudo_test.specs.Chains.{Strong}
+use Rattle.orient_test.specs.Signs.{Orientable}
+use Rattle.flip_rules.specs.declared.flip.Flip.{Flip}
+use Rattle.flip_rules.specs.Flips.{OfFaces, replay}
+
+-- the ridges, rising, each once
+abbrev pub ridges : List (List ℕ) → List (List ℕ)
+ridges facets = rising face_cmp (flat_map (λ f. map (λ x. without f x) f) facets)
+
+-- those of them that lie in one facet
+abbrev pub boundary : List (List ℕ) → List (List ℕ)
+boundary facets = filter (λ r. nat_eq (count facets r) 1) (ridges facets)
+
+-- the one complex has each of these facts exactly where the other has it
+pub record Keeps (k l : Space) : Type 0 where
+  pub dim : k.dim ≡ l.dim
+  pub euler : euler k.facets ≡ euler l.facets
+  pub closed : Closed k.facets ↔ Closed l.facets
+  pub thin : Thin k.facets ↔ Thin l.facets
+  pub boundary : boundary k.facets ≡ boundary l.facets
+  pub strong : Strong k.facets ↔ Strong l.facets
+  pub orientable : Orientable k.facets ↔ Orientable l.facets
+
+-- flips one after another lead from a complex to a complex, and keep these facts
+abbrev pub ReplayKeeps : Type 0
+ReplayKeeps = (k l : Space) (flips : List Flip) → IsComplex k → AllByRecursion OfFaces flips → replay k flips ≡ Some l → IsComplex l × Keeps k l
+
+-- the inverse flips, last first
+abbrev pub back : List Flip → List Flip
+back [] = []
+back (f ∷ flips) = back flips ++ record { a = f.b; b = f.a } ∷ []
+
+-- they lead back
+abbrev pub ReplaysBack : Type 0
+ReplaysBack = (k l : Space) (flips : List Flip) → IsComplex k → AllByRecursion OfFaces flips → replay k flips ≡ Some l → replay l (back flips) ≡ Some k

@@ -1,0 +1,4 @@
+-- What legal flips keep, and what that rules out.
+pub mod Keeping
+pub mod Obstacles
+pub mod Differences

@@ -1,0 +1,37 @@
+ghost use Rattle.std.specs.Prelude.{◌≡◌, Ok, Err, OnOk, OnErr, IfErr};
+ghost use Rattle.flip_rules.specs.Flips.{why, flipped, FlipRefused, OfFaces};
+ghost use Rattle.flip_laws.specs.Keeping.{Keeps, ReplayKeeps, ReplaysBack};
+
+use complex_core::Complex;
+use flip_rules::{Flip, FlipFault, Illegal, apply};
+
+/// Makes a flip on a complex, or leaves the complex as it is: exactly where the flip breaks a rule,
+/// or for want of memory.
+///
+/// The complex after the flip has the same dimension, Euler characteristic and ridges in one facet
+/// as before. It is closed, thin, strongly connected or orientable exactly where it was so before.
+pub fn flip_keeping(complex: &mut Complex, flip: &Flip) -> Result<(), FlipFault>
+    ensures legal { OnOk result (why complex.old flip.now.a flip.now.b ≡ Ok tt) }
+    ensures ok { OnOk result (complex.new ≡ flipped complex.old flip.now.a flip.now.b) }
+    ensures kept { OnOk result (Keeps complex.old complex.new) }
+    ensures err { OnErr result (complex.new ≡ complex.old) }
+    ensures why { IfErr result (FlipRefused (why complex.old flip.now.a flip.now.b)) }
+
+    // A flip that breaks a rule is always told which, also where memory is short.
+    ensures told { (e : Illegal) → why complex.old flip.now.a flip.now.b ≡ Err e →
+        result ≡ Err (FlipFault.Illegal e) }
+
+    ensures faces { OfFaces flip.now }
+{
+    let _facets = complex.facets();
+    match apply(complex, flip) {
+        Ok(()) => Ok(()),
+        Err(fault) => Err(fault),
+    }
+}
+
+/// Flips one after another keep what one flip keeps, and the inverse flips, last first, lead back.
+pub fn keeping_law()
+    ensures replay { ReplayKeeps }
+    ensures back { ReplaysBack }
+{}
