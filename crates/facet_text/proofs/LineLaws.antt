@@ -12,7 +12,7 @@ use Rattle.std.proofs.lemmas.List.Sums.{prefix_len-le-length}
 use Rattle.facet_text.specs.Tokens.{is_blank}
 use Rattle.facet_text.specs.Lines.{AfterEnds, AreEnds, Item, feeds_in, is_feed, is_solid, items, items_past, line_end, word}
 
-items_past-drop : (n at : ℕ) (bs : List ℕ) → n ≤ length bs → items_past n at bs ≡ items_past 0 (at + n) (drop n bs)
+pub items_past-drop : (n at : ℕ) (bs : List ℕ) → n ≤ length bs → items_past n at bs ≡ items_past 0 (at + n) (drop n bs)
 unfolding items_past
 items_past-drop zero at bs h = rw add-zero refl
 items_past-drop (suc n) at [] h = absurd (omega arith)
@@ -20,15 +20,15 @@ items_past-drop (suc n) at (b ∷ bs) h =
     let place : at + 1 + n ≡ at + suc n = omega arith in
     items_past-drop n (at + 1) bs (omega arith) ∙ ap (λ (k : ℕ). items_past 0 k (drop n bs)) place
 
-feed_here : (at b : ℕ) (bs : List ℕ) → is_feed b ≡ true → items_past 0 at (b ∷ bs) ≡ line_end at ∷ items_past 0 (at + 1) bs
+pub feed_here : (at b : ℕ) (bs : List ℕ) → is_feed b ≡ true → items_past 0 at (b ∷ bs) ≡ line_end at ∷ items_past 0 (at + 1) bs
 unfolding items_past
 feed_here at b bs feed = rw feed refl
 
-pass_here : (at b : ℕ) (bs : List ℕ) → is_feed b ≡ false → is_blank b ≡ true → items_past 0 at (b ∷ bs) ≡ items_past 0 (at + 1) bs
+pub pass_here : (at b : ℕ) (bs : List ℕ) → is_feed b ≡ false → is_blank b ≡ true → items_past 0 at (b ∷ bs) ≡ items_past 0 (at + 1) bs
 unfolding items_past
 pass_here at b bs feed blank = rw (blank, feed) refl
 
-no_feed : (b : ℕ) → is_blank b ≡ false → is_feed b ≡ false
+pub no_feed : (b : ℕ) → is_blank b ≡ false → is_feed b ≡ false
 no_feed b solid = grind arith
 
 ends_push : (ends : List Item) (p : ℕ) → AreEnds ends → AreEnds (ends ++ line_end p ∷ [])
@@ -58,7 +58,7 @@ past_blank bs i is n lt blank h =
     blank_step i (get_or bs i 0) (drop (i + 1) bs) is n blank (subst (λ (l : List ℕ). AfterEnds is n (items_past 0 i l)) cut h)
 
 -- the word that begins at a byte
-word_step : (at b : ℕ) (bs : List ℕ) → is_blank b ≡ false → items_past 0 at (b ∷ bs) ≡ word (b ∷ take_while is_solid bs) at ∷ items_past 0 (at + 1 + prefix_len is_solid bs) (drop (prefix_len is_solid bs) bs)
+pub word_step : (at b : ℕ) (bs : List ℕ) → is_blank b ≡ false → items_past 0 at (b ∷ bs) ≡ word (b ∷ take_while is_solid bs) at ∷ items_past 0 (at + 1 + prefix_len is_solid bs) (drop (prefix_len is_solid bs) bs)
 unfolding items_past
 word_step at b bs solid = rw (solid, no_feed b solid) (ap (λ (is : List Item). word (b ∷ take_while is_solid bs) at ∷ is) (items_past-drop (prefix_len is_solid bs) (at + 1) bs (prefix_len-le-length is_solid bs)))
 
@@ -84,14 +84,14 @@ all_ends ends p are = ends_push ends p are
 pub only_ends : (is : List Item) (n p : ℕ) → AfterEnds is n (line_end p ∷ []) → AreEnds is
 only_ends is n p h = subst AreEnds (sym h.3) (ends_push h.0 p h.1)
 
-line_end_is : (p q : ℕ) (is js : List Item) → line_end p ∷ is ≡ line_end q ∷ js → p ≡ q
+pub line_end_is : (p q : ℕ) (is js : List Item) → line_end p ∷ is ≡ line_end q ∷ js → p ≡ q
 line_end_is p q is js e = cc
 
-not_line_end : (text : List ℕ) (p q : ℕ) (is js : List Item) → word text p ∷ is ≡ line_end q ∷ js → ⊥
+pub not_line_end : (text : List ℕ) (p q : ℕ) (is js : List Item) → word text p ∷ is ≡ line_end q ∷ js → ⊥
 not_line_end text p q is js e = cc
 
 -- where the first item is a line end, it stands at the end of the line
-first_end : (at : ℕ) (bs : List ℕ) (p : ℕ) (rest : List Item) → items_past 0 at bs ≡ line_end p ∷ rest → p ≡ at + prefix_len (λ b. not (is_feed b)) bs
+pub first_end : (at : ℕ) (bs : List ℕ) (p : ℕ) (rest : List Item) → items_past 0 at bs ≡ line_end p ∷ rest → p ≡ at + prefix_len (λ b. not (is_feed b)) bs
 unfolding items_past
 first_end at [] p rest e = rw add-zero (sym (line_end_is at p [] rest e))
 first_end at (b ∷ bs) p rest e = elim (cases_Bool (is_blank b)) [
@@ -107,7 +107,7 @@ first_end at (b ∷ bs) p rest e = elim (cases_Bool (is_blank b)) [
 ]
 
 -- the items are never none
-some_item : (at : ℕ) (bs : List ℕ) → (first : Item) × (rest : List Item) × (items_past 0 at bs ≡ first ∷ rest)
+pub some_item : (at : ℕ) (bs : List ℕ) → (first : Item) × (rest : List Item) × (items_past 0 at bs ≡ first ∷ rest)
 unfolding items_past
 some_item at [] = (line_end at, [], refl)
 some_item at (b ∷ bs) = elim (cases_Bool (is_blank b)) [

@@ -1,0 +1,7 @@
+use Rattle.std.proofs.Common.{◌≡◌, ◌++◌, take}
+use Rattle.std.specs.List.{flat_map}
+use Rattle.line_text.specs.Writing.{set_off}
+use Rattle.line_text.proofs.write.put_second.Given as goal
+
+abbrev pub invariant-loop-label : goal.invariant-loop-label
+invariant-loop-label l = l.out.items ≡ l.fn.out.items ++ flat_map set_off (take l.label-index l.labels)

@@ -1,0 +1,4 @@
+-- Traces, and how bytes tell one.
+pub mod Traces
+pub mod Grammar
+pub mod Outcomes
