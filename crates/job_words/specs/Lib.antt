@@ -1,0 +1,4 @@
+pub mod Command
+pub mod Reads
+pub mod Names
+pub mod Jobs

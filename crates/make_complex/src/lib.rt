@@ -1,0 +1,9 @@
+//! The complexes that have names.
+#![tactic(auto)]
+
+mod kind;
+
+pub use kind::Kind;
+
+#[cfg(test)]
+mod tests;
