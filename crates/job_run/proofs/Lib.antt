@@ -1,7 +1,7 @@
-pub mod Writing
-pub mod Words
-pub mod Scanning
-pub mod Lines
-pub mod Reading
 pub mod Replays
+pub mod RunTurns
+pub mod RunNames
+pub mod RunKept
+pub mod RunEnd
+pub mod Describing
 pub mod Answering

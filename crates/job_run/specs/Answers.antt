@@ -1,5 +1,5 @@
--- What the job `replay` answers.
-use Rattle.std.specs.Prelude.{◌≡◌, ℕ, ◌≤◌, ◌<◌, ◌⊎◌, List, [], ◌∷◌, length, Some, codes}
+-- What the jobs answer.
+use Rattle.std.specs.Prelude.{◌≡◌, true, ℕ, ◌≤◌, ◌<◌, ◌⊎◌, List, length, map, Some, Ok, Err}
 use Rattle.std.specs.declared.option.Option.{Option}
 use Rattle.std.specs.Io.KnownBytes.{Appends}
 use Rattle.flip_io.specs.Outcomes.{AppendsPrefix}
@@ -9,10 +9,52 @@ use Rattle.flip_rules.specs.Boundaries.{IsBoundary}
 use Rattle.flip_rules.specs.Certificates.{SphereCert, IsFirstIllegal}
 use Rattle.flip_rules.specs.declared.flip.Flip.{Flip}
 use Rattle.flip_rules.specs.declared.flip.Illegal.{Illegal}
-use Rattle.job_run.specs.Texts.{usage_line, too_long_line, form_line, yes_text, illegal_text, wrong_end_text}
-use Rattle.job_run.specs.Inputs.{IsInput}
+use Rattle.flip_world.specs.Cores.{Core}
+use Rattle.flip_world.specs.Runs.{Turn, IsRun}
+use Rattle.job_words.specs.Jobs.{job_at}
+use Rattle.job_words.specs.declared.job.Job.{Job as Asked}
+use Rattle.job_words.specs.declared.job.JobName.{JobName}
+use Rattle.job_words.specs.declared.job.JobName.TheVariants as name
+use Rattle.trace_text.specs.Traces.{Trace, names}
+use Rattle.trace_text.specs.Grammar.{trace_of}
+use Rattle.trace_text.specs.declared.fault.TraceFault.{TraceFault}
+use Rattle.job_run.specs.Texts.{usage_line, yes_text, illegal_text, wrong_end_text}
+use Rattle.job_run.specs.Faults.{of_trace, fault_line}
+use Rattle.job_run.specs.Readings.{input_of, complex_of}
+use Rattle.job_run.specs.Descriptions.{Describes}
+use Rattle.job_run.specs.declared.fault.Fault.{Fault}
+use Rattle.job_run.specs.declared.fault.Fault.TheVariants as fault
+use Rattle.job_run.specs.Traced.{placed, opened_for, end_of, is_clean, IsTraceRun, TellsHistory}
+use Rattle.job_run.specs.declared.job.Job.{Job}
+use Rattle.job_run.specs.declared.job.Job.TheVariants as job
+use Rattle.job_run.specs.declared.job.JobReport.{JobReport}
+use Rattle.job_run.specs.declared.job.JobReport.TheVariants as report
 use Rattle.job_run.specs.declared.job.Status.{Status}
 use Rattle.job_run.specs.declared.job.Status.TheVariants.{Yes, No, Undecided, Usage, BadInput, ReadFault, WriteFault, NoMemory}
+
+-- ---- the jobs
+
+-- the jobs that are built
+abbrev pub name_of : Job → JobName
+name_of job.Replay = name.Replay
+name_of job.Trace = name.Trace
+name_of job.Info = name.Info
+
+-- the most bytes of an input
+abbrev pub limit_of : Job → ℕ
+limit_of job.Replay = 268435456
+limit_of job.Trace = 4194304
+limit_of job.Info = 4194304
+
+-- the words ask for this job, whatever options they have
+pub record IsJob (words : List (List ℕ)) (j : Job) : Type 0 where
+  pub asked : Asked
+  pub asks : job_at words ≡ Ok asked
+  pub named : asked.name ≡ name_of j
+
+-- the words ask for no job that is built
+abbrev pub NamesNoJob : List (List ℕ) → Type 0
+NamesNoJob words = (j : Job) → IsJob words j → ⊥
 
 -- ---- what flips come to
 
@@ -41,72 +83,126 @@ pub record EndsElsewhere (k : Space) (flips : List Flip) (status : Status) (text
 abbrev pub IsVerdict : Space → List Flip → Status → List ℕ → Type 0
 IsVerdict k flips status text = Shows k flips status text ⊎ (Breaks k flips status text ⊎ EndsElsewhere k flips status text)
 
--- ---- the answer to the bytes of an input
+-- ---- what each job answers to the bytes of an input
 
--- the bytes are the text of a complex and flips, which come to this
-pub record IsReplayed (bytes : List ℕ) (status : Status) (text : List ℕ) : Type 0 where
+-- the bytes tell a complex and flips, which come to this, and nothing else is reported
+pub record IsReplayed (bytes : List ℕ) (status : Status) (text : List ℕ) (found : JobReport) : Type 0 where
   pub start : Space
   pub flips : List Flip
-  pub input : IsInput bytes start flips
+  pub input : input_of bytes ≡ Ok (start, flips)
   pub verdict : IsVerdict start flips status text
+  pub reports : found ≡ report.Nothing
 
--- the bytes are no input
-pub record IsNoInput (bytes : List ℕ) (status : Status) (text : List ℕ) : Type 0 where
+-- the bytes tell a trace, which comes to this, and the core that it ends with is reported
+pub record IsTraceAnswer (bytes : List ℕ) (status : Status) (text : List ℕ) (found : JobReport) : Type 0 where
+  pub last : Core
+  pub run : IsTraceRun bytes status text last
+  pub reports : found ≡ report.Trace last
+
+-- the bytes tell a complex, which the text describes
+pub record TellsFacts (bytes text : List ℕ) : Type 0 where
+  pub complex : Space
+  pub input : complex_of bytes ≡ Ok complex
+  pub describes : Describes complex text
+
+-- Yes always, and nothing else is reported
+pub record IsInfoAnswer (bytes : List ℕ) (status : Status) (text : List ℕ) (found : JobReport) : Type 0 where
+  pub is_yes : status ≡ Yes
+  pub facts : TellsFacts bytes text
+  pub reports : found ≡ report.Nothing
+
+abbrev pub IsDone : Job → List ℕ → Status → List ℕ → JobReport → Type 0
+IsDone job.Replay bytes status text found = IsReplayed bytes status text found
+IsDone job.Trace bytes status text found = IsTraceAnswer bytes status text found
+IsDone job.Info bytes status text found = IsInfoAnswer bytes status text found
+
+-- the first fault of the bytes, read as an input of the job
+abbrev pub HasFault : Job → List ℕ → Fault → Type 0
+HasFault job.Replay bytes first = input_of bytes ≡ Err first
+HasFault job.Trace bytes first = (e : TraceFault) × (trace_of bytes ≡ Err e) × (first ≡ of_trace e)
+HasFault job.Info bytes first = complex_of bytes ≡ Err first
+
+-- BadInput, and the line of this fault
+pub record Refuses (first : Fault) (status : Status) (text : List ℕ) (found : JobReport) : Type 0 where
   pub is_bad : status ≡ BadInput
-  pub none : (k : Space) (flips : List Flip) → IsInput bytes k flips → ⊥
-  pub says : text ≡ form_line
+  pub says : text ≡ fault_line first
+  pub reports : found ≡ report.Nothing
 
-abbrev pub IsJudged : List ℕ → Status → List ℕ → Type 0
-IsJudged bytes status text = IsNoInput bytes status text ⊎ IsReplayed bytes status text
+pub record IsNoInput (j : Job) (bytes : List ℕ) (status : Status) (text : List ℕ) (found : JobReport) : Type 0 where
+  pub first : Fault
+  pub has : HasFault j bytes first
+  pub refused : Refuses first status text found
+
+abbrev pub IsJudged : Job → List ℕ → Status → List ℕ → JobReport → Type 0
+IsJudged j bytes status text found = IsNoInput j bytes status text found ⊎ IsDone j bytes status text found
 
 -- more bytes than an input may have
-abbrev pub IsLong : List ℕ → Type 0
-IsLong bytes = 268435456 < length bytes
+pub record IsTooLong (j : Job) (bytes : List ℕ) (status : Status) (text : List ℕ) (found : JobReport) : Type 0 where
+  pub long : limit_of j < length bytes
+  pub refused : Refuses fault.TooLong status text found
 
-pub record IsTooLong (bytes : List ℕ) (status : Status) (text : List ℕ) : Type 0 where
-  pub is_bad : status ≡ BadInput
-  pub long : IsLong bytes
-  pub says : text ≡ too_long_line
+pub record IsRead (j : Job) (bytes : List ℕ) (status : Status) (text : List ℕ) (found : JobReport) : Type 0 where
+  pub short : length bytes ≤ limit_of j
+  pub judged : IsJudged j bytes status text found
 
-pub record IsRead (bytes : List ℕ) (status : Status) (text : List ℕ) : Type 0 where
-  pub short : length bytes ≤ 268435456
-  pub judged : IsJudged bytes status text
-
--- the answer of `replay` to the bytes
-abbrev pub IsFound : List ℕ → Status → List ℕ → Type 0
-IsFound bytes status text = IsTooLong bytes status text ⊎ IsRead bytes status text
+-- the answer of the job to the bytes
+abbrev pub IsFound : Job → List ℕ → Status → List ℕ → JobReport → Type 0
+IsFound j bytes status text found = IsTooLong j bytes status text found ⊎ IsRead j bytes status text found
 
 -- ---- the answer to words and an input, before it is written
 
--- the words are the one word `replay`
-abbrev pub IsReplay : List (List ℕ) → Type 0
-IsReplay words = words ≡ codes "replay" ∷ []
-
-pub record IsUsage (words : List (List ℕ)) (status : Status) (text : List ℕ) : Type 0 where
+pub record IsUsage (words : List (List ℕ)) (status : Status) (text : List ℕ) (found : JobReport) : Type 0 where
   pub is_usage : status ≡ Usage
-  pub other : IsReplay words → ⊥
+  pub other : NamesNoJob words
   pub says : text ≡ usage_line
+  pub reports : found ≡ report.Nothing
 
-pub record IsJob (words : List (List ℕ)) (bytes : List ℕ) (status : Status) (text : List ℕ) : Type 0 where
-  pub job : IsReplay words
-  pub found : IsFound bytes status text
+pub record IsJobAnswer (words : List (List ℕ)) (bytes : List ℕ) (status : Status) (text : List ℕ) (found : JobReport) : Type 0 where
+  pub job : Job
+  pub named : IsJob words job
+  pub answer : IsFound job bytes status text found
 
-abbrev pub IsAnswer : List (List ℕ) → List ℕ → Status → List ℕ → Type 0
-IsAnswer words bytes status text = IsUsage words status text ⊎ IsJob words bytes status text
+abbrev pub IsAnswer : List (List ℕ) → List ℕ → Status → List ℕ → JobReport → Type 0
+IsAnswer words bytes status text found = IsUsage words status text found ⊎ IsJobAnswer words bytes status text found
 
--- words and input determine status and text
+-- the same status, the same text, and the same report
+pub record Same (s t : Status) (xs ys : List ℕ) (p q : JobReport) : Type 0 where
+  pub statuses : s ≡ t
+  pub texts : xs ≡ ys
+  pub reports : p ≡ q
+
+-- words and input determine status, text and report
 abbrev pub AnswerIsOne : Type 0
-AnswerIsOne = (words : List (List ℕ)) (bytes : List ℕ) (s t : Status) (xs ys : List ℕ) → IsAnswer words bytes s xs → IsAnswer words bytes t ys → (s ≡ t) × (xs ≡ ys)
+AnswerIsOne = (words : List (List ℕ)) (bytes : List ℕ) (s t : Status) (xs ys : List ℕ) (p q : JobReport) → IsAnswer words bytes s xs p → IsAnswer words bytes t ys q → Same s t xs ys p q
 
--- the headline: the bytes are the canonical text of a complex and flips, and the flips are legal in order from that complex
--- and end in the boundary of a simplex
-pub record TellsSphere (words : List (List ℕ)) (bytes : List ℕ) : Type 0 where
-  pub job : IsReplay words
-  pub short : length bytes ≤ 268435456
+-- ---- what a decided answer tells
+
+-- the headline of `replay`: the bytes tell a complex and flips, and the flips are legal in order from that complex and end
+-- in the boundary of a simplex
+pub record TellsSphere (bytes : List ℕ) : Type 0 where
+  pub short : length bytes ≤ limit_of job.Replay
   pub start : Space
   pub flips : List Flip
-  pub input : IsInput bytes start flips
+  pub input : input_of bytes ≡ Ok (start, flips)
   pub certificate : SphereCert start flips
+
+-- the bytes tell a trace, each event of which is accepted, and nothing is pending at its end
+pub record RunsClean (bytes : List ℕ) : Type 0 where
+  pub short : length bytes ≤ limit_of job.Trace
+  pub trace : Trace
+  pub input : trace_of bytes ≡ Ok trace
+  pub turns : List Turn
+  pub events_are : map (λ (u : Turn). u.event) turns ≡ map (placed (names trace)) trace.events
+  pub run : IsRun (opened_for trace) turns
+  pub clean : is_clean turns (end_of (opened_for trace) turns) ≡ true
+
+-- the headline of `trace`: the bytes tell a trace, and the text tells the history of the core that is reported
+pub record TellsReport (bytes text : List ℕ) (found : JobReport) : Type 0 where
+  pub trace : Trace
+  pub input : trace_of bytes ≡ Ok trace
+  pub last : Core
+  pub reports : found ≡ report.Trace last
+  pub history : TellsHistory trace text last
 
 -- ---- what was written
 
@@ -125,13 +221,38 @@ IsWritten NoMemory = ⊥
 abbrev pub IsDecided : Status → Type 0
 IsDecided status = (status ≡ Yes) ⊎ (status ≡ No)
 
--- what an answer says of the words alone
-pub record IsOfJob (words : List (List ℕ)) (status : Status) : Type 0 where
-  pub job : IsReplay words
-  pub found : IsDecided status ⊎ (status ≡ BadInput)
+-- a decided trace reports a core, and the other jobs report nothing
+abbrev pub FitsJob : Job → JobReport → Type 0
+FitsJob job.Replay found = found ≡ report.Nothing
+FitsJob job.Trace found = (last : Core) × (found ≡ report.Trace last)
+FitsJob job.Info found = found ≡ report.Nothing
 
-abbrev pub FitsWords : List (List ℕ) → Status → List ℕ → Type 0
-FitsWords words status text = IsUsage words status text ⊎ IsOfJob words status
+-- the verdicts of a job; `info` has no No
+abbrev pub MayEnd : Job → Status → Type 0
+MayEnd job.Replay status = IsDecided status
+MayEnd job.Trace status = IsDecided status
+MayEnd job.Info status = status ≡ Yes
+
+pub record DecidesJob (j : Job) (status : Status) (found : JobReport) : Type 0 where
+  pub decided : MayEnd j status
+  pub fits : FitsJob j found
+
+pub record IsBad (status : Status) (found : JobReport) : Type 0 where
+  pub is_bad : status ≡ BadInput
+  pub reports : found ≡ report.Nothing
+
+-- what an answer of a job says of the job alone
+abbrev pub EndsJob : Job → Status → JobReport → Type 0
+EndsJob j status found = DecidesJob j status found ⊎ IsBad status found
+
+pub record IsOfJob (words : List (List ℕ)) (status : Status) (found : JobReport) : Type 0 where
+  pub job : Job
+  pub named : IsJob words job
+  pub ends : EndsJob job status found
+
+-- what an answer says of the words alone
+abbrev pub FitsWords : List (List ℕ) → Status → List ℕ → JobReport → Type 0
+FitsWords words status text found = IsUsage words status text found ⊎ IsOfJob words status found
 
 -- what other words may end with
 abbrev pub RefusesWords : Status → Type 0
@@ -139,6 +260,10 @@ RefusesWords status = (status ≡ Usage) ⊎ ((status ≡ WriteFault) ⊎ (statu
 
 abbrev pub WritesNothing : Status → Type 0
 WritesNothing status = (status ≡ ReadFault) ⊎ (status ≡ NoMemory)
+
+-- an answer that no verdict stands behind
+abbrev pub ReportsNothing : Status → Type 0
+ReportsNothing status = (status ≡ Usage) ⊎ ((status ≡ BadInput) ⊎ WritesNothing status)
 
 -- a text with P was appended
 abbrev pub Answered : Option (List ℕ) → Option (List ℕ) → (List ℕ → Type 0) → Type 0

@@ -1,6 +1,10 @@
 -- What the program answers.
 pub mod Texts
-pub mod Scans
-pub mod Inputs
+pub mod Faults
+pub mod Readings
 pub mod Verdicts
+pub mod TraceTexts
+pub mod Traced
+pub mod TraceRuns
+pub mod Descriptions
 pub mod Answers

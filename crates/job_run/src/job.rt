@@ -1,23 +1,78 @@
 // The jobs, from words and bytes to an answer.
-ghost use Rattle.std.specs.Prelude.{◌≡◌, ◌↔◌, ◌⊎◌, IfOk, IfSome, IsTrue, Err, map, string_bytes};
+ghost use Rattle.std.specs.Prelude.{◌≡◌, ◌↔◌, ◌⊎◌, ◌≤◌, IfOk, IfSome, MatchOption, Err, length, map, string_bytes};
 ghost use Rattle.std.specs.Io.KnownBytes.{Keeps, Appends, IsAtEnd};
 ghost use Rattle.flip_io.specs.Causes.{Rose};
 ghost use Rattle.flip_io.specs.Outcomes.{AppendsPrefix};
 ghost use Rattle.job_run.specs.declared.job.Stop.TheVariants.{NoMemory};
 ghost use Rattle.job_run.specs.declared.job.JobReport.TheVariants as report;
+ghost use Rattle.job_run.specs.declared.job.Job.TheVariants as job;
+ghost use Rattle.job_run.specs.declared.job.Job.{Job};
+ghost use Rattle.job_run.specs.declared.fault.Fault.TheVariants as fault;
 ghost use Rattle.job_run.specs.Texts.{usage_line};
-ghost use Rattle.job_run.specs.Answers.{IsJudged, IsFound, IsReplay, IsAnswer, FitsWords, TellsSphere, IsWritten, IsDecided, RefusesWords, WritesNothing, Answered, BegunWith, status_number};
+ghost use Rattle.job_run.specs.Answers.{name_of, limit_of, IsJob, NamesNoJob, IsVerdict, Refuses, IsJudged, IsFound, IsAnswer, FitsWords, FitsJob, EndsJob, TellsSphere, RunsClean, TellsReport, TellsFacts, IsWritten, IsDecided, RefusesWords, WritesNothing, ReportsNothing, Answered, BegunWith, status_number};
 
-use crate::input::read_input;
-use crate::text::{form_line, illegal_text, too_long_line, usage_line, wrong_end_text, yes_text};
+use crate::fault::{Fault, fault_line};
+use crate::info::{description, read_alone};
+use crate::replay::read_input;
+use crate::text::{illegal_text, usage_line, wrong_end_text, yes_text};
+use crate::trace::run_trace;
 use crate::verdict::{Verdict, replay};
+use complex_core::Complex;
 use flip_io::{Failed, ReadAllFault, Sink, Source, read_all, write_all};
+use flip_rules::Flip;
+use flip_world::World;
+use job_words::{JobName, UsageFault, read_words};
 use std::alloc::{AllocError, Global};
+use trace_text::read_trace;
 
-const REPLAY: &str = "replay";
+// What words can ask for.
+#[derive(Clone, Copy)]
+enum Job {
+    Replay,
+    Trace,
+    Info,
+}
 
-// The most bytes of an input.
-const LIMIT: usize = 268_435_456;
+impl Job {
+    // The job of this name, if it is built.
+    fn of_name(name: JobName) -> Option<Job>
+        ensures { MatchOption result ((j : Job) → name ≡ name_of j → ⊥) (λ j. name ≡ name_of j) }
+    {
+        match name {
+            JobName::Replay => Some(Job::Replay),
+            JobName::Trace => Some(Job::Trace),
+            JobName::Info => Some(Job::Info),
+            JobName::Sphere
+            | JobName::Equiv
+            | JobName::Iso
+            | JobName::Manifold
+            | JobName::Make
+            | JobName::Drill => None,
+        }
+    }
+
+    // The job that the words ask for, if it is built.
+    fn of_words(alloc: Global, words: &[String]) -> Result<Option<Job>, AllocError>
+        ensures { IfOk result (λ found. MatchOption found (NamesNoJob (map string_bytes words.now)) (IsJob (map string_bytes words.now))) }
+    {
+        match read_words(alloc, words) {
+            Ok(asked) => Ok(Job::of_name(asked.name)),
+            Err(UsageFault::Memory) => Err(AllocError),
+            Err(UsageFault::Words | UsageFault::Name | UsageFault::Product | UsageFault::KindDim) =>
+                Ok(None),
+        }
+    }
+
+    // The most bytes of an input.
+    fn limit(self) -> usize
+        ensures { result ≡ limit_of self }
+    {
+        match self {
+            Job::Replay => 268_435_456,
+            Job::Trace | Job::Info => 4_194_304,
+        }
+    }
+}
 
 /// How a job ends.
 #[derive(Clone, Copy, Debug, PartialEq, Eq)]
@@ -59,14 +114,16 @@ impl Status {
 }
 
 /// What a job found besides its text.
-#[derive(Debug, Drop)]
+#[derive(Drop)]
 pub enum JobReport {
     /// Nothing more than its text says.
     Nothing,
+    /// The world that a trace ends with.
+    Trace(World),
 }
 
 /// What a job ends with.
-#[derive(Debug, Drop)]
+#[derive(Drop)]
 pub struct Answer {
     /// How it ended.
     pub status: Status,
@@ -74,21 +131,99 @@ pub struct Answer {
     pub report: JobReport,
 }
 
-// Judges an input.
-fn judge(alloc: Global, bytes: &[u8]) -> Result<(Status, String), AllocError>
-    ensures judged { IfOk result (λ a. IsJudged bytes.now a.0 (string_bytes a.1)) }
+// An answer with its text, before it is written.
+#[derive(Drop)]
+struct Prepared {
+    status: Status,
+    text: Vec<u8>,
+    report: JobReport,
+}
+
+// An answer that reports nothing.
+fn plain(status: Status, text: String) -> Prepared
+    ensures status { result.status ≡ status }
+    ensures text { result.text.items ≡ string_bytes text }
+    ensures report { result.report ≡ report.Nothing }
 {
-    let Some((mut complex, flips)) = read_input(alloc, bytes)? else {
-        return Ok((Status::BadInput, form_line(alloc)?));
-    };
-    let count = flips.len();
-    match replay(&mut complex, &flips)? {
+    Prepared {
+        status,
+        text: text.into_bytes(),
+        report: JobReport::Nothing,
+    }
+}
+
+// Refuses an input.
+fn refuse(alloc: Global, first: Fault) -> Result<Prepared, AllocError>
+    ensures refused { IfOk result (λ a. Refuses first a.status a.text.items a.report) }
+    ensures known { IfOk result (λ a. first ≡ fault.Memory → ⊥) }
+{
+    Ok(plain(Status::BadInput, fault_line(alloc, first)?))
+}
+
+// Replays flips.
+fn judge_flips(alloc: Global, complex: &mut Complex, flips: &[Flip]) -> Result<Prepared, AllocError>
+    ensures verdict { IfOk result (λ a. IsVerdict complex.old flips.now a.status a.text.items) }
+    ensures report { IfOk result (λ a. a.report ≡ report.Nothing) }
+{
+    match replay(complex, flips)? {
         Verdict::Valid => {
             let facets = complex.facets().len();
-            Ok((Status::Yes, yes_text(alloc, count, facets)?))
+            Ok(plain(Status::Yes, yes_text(alloc, flips.len(), facets)?))
         }
-        Verdict::Bad(number, illegal) => { Ok((Status::No, illegal_text(alloc, number, illegal)?)) }
-        Verdict::WrongEnd => Ok((Status::No, wrong_end_text(alloc)?)),
+        Verdict::Bad(number, illegal) => {
+            Ok(plain(Status::No, illegal_text(alloc, number, illegal)?))
+        }
+        Verdict::WrongEnd => Ok(plain(Status::No, wrong_end_text(alloc)?)),
+    }
+}
+
+// Replays an input.
+fn judge_replay(alloc: Global, bytes: &[u8]) -> Result<Prepared, AllocError>
+    ensures judged { IfOk result (λ a. IsJudged job.Replay bytes.now a.status a.text.items a.report) }
+{
+    match read_input(alloc, bytes) {
+        Ok((mut complex, flips)) => judge_flips(alloc, &mut complex, &flips),
+        Err(fault) => refuse(alloc, fault),
+    }
+}
+
+// Runs an input as a trace.
+fn judge_trace(alloc: Global, bytes: &[u8]) -> Result<Prepared, AllocError>
+    requires { length bytes.now ≤ limit_of job.Trace }
+    ensures judged { IfOk result (λ a. IsJudged job.Trace bytes.now a.status a.text.items a.report) }
+{
+    match read_trace(alloc, bytes) {
+        Ok(trace) => {
+            let (status, text, world) = run_trace(alloc, &trace)?;
+            Ok(Prepared {
+                status,
+                text,
+                report: JobReport::Trace(world),
+            })
+        }
+        Err(fault) => refuse(alloc, Fault::from(fault)),
+    }
+}
+
+// Describes the complex of an input.
+fn judge_info(alloc: Global, bytes: &[u8]) -> Result<Prepared, AllocError>
+    ensures judged { IfOk result (λ a. IsJudged job.Info bytes.now a.status a.text.items a.report) }
+{
+    match read_alone(alloc, bytes) {
+        Ok(complex) => Ok(plain(Status::Yes, description(alloc, &complex)?)),
+        Err(fault) => refuse(alloc, fault),
+    }
+}
+
+// Judges an input of a job.
+fn judge(alloc: Global, job: Job, bytes: &[u8]) -> Result<Prepared, AllocError>
+    requires { length bytes.now ≤ limit_of job }
+    ensures judged { IfOk result (λ a. IsJudged job bytes.now a.status a.text.items a.report) }
+{
+    match job {
+        Job::Replay => judge_replay(alloc, bytes),
+        Job::Trace => judge_trace(alloc, bytes),
+        Job::Info => judge_info(alloc, bytes),
     }
 }
 
@@ -105,91 +240,117 @@ impl From<AllocError> for Stop {
     }
 }
 
-fn is_replay(words: &[String]) -> bool
-    ensures { IsTrue result ↔ IsReplay (map string_bytes words.now) }
-{
-    words.len() == 1 && words[0].as_str() == REPLAY
-}
-
-// The answer of `replay`, before it is written.
-fn find_answer<S: Source>(alloc: Global, source: &mut S) -> Result<(Status, String), Stop>
-    ensures told { IfOk result (λ a. IfSome (S.left source.old) (λ bytes. IsFound bytes a.0 (string_bytes a.1))) }
-    ensures status { IfOk result (λ a. IsDecided a.0 ⊎ (a.0 ≡ Status.BadInput)) }
-    ensures taken { IfOk result (λ a. IsDecided a.0 → IsAtEnd (S.left source.new)) }
+// The answer of a job, before it is written.
+fn find_answer<S: Source>(alloc: Global, job: Job, source: &mut S) -> Result<Prepared, Stop>
+    ensures told { IfOk result (λ a. IfSome (S.left source.old) (λ bytes. IsFound job bytes a.status a.text.items a.report)) }
+    ensures ends { IfOk result (λ a. EndsJob job a.status a.report) }
+    ensures taken { IfOk result (λ a. IsDecided a.status → IsAtEnd (S.left source.new)) }
     ensures fault { result ≡ Err Stop.ReadFault → Rose (S.faults source.old) (S.faults source.new) }
 {
-    match read_all(alloc, source, LIMIT) {
-        Ok(bytes) => Ok(judge(alloc, &bytes)?),
+    match read_all(alloc, source, job.limit()) {
+        Ok(bytes) => Ok(judge(alloc, job, &bytes)?),
         Err(ReadAllFault::Fault) => Err(Stop::ReadFault),
-        Err(ReadAllFault::TooLong(_)) => Ok((Status::BadInput, too_long_line(alloc)?)),
+        Err(ReadAllFault::TooLong(_)) => Ok(refuse(alloc, Fault::TooLong)?),
         Err(ReadAllFault::Memory) => Err(Stop::NoMemory),
     }
 }
 
 // The answer to the words, before it is written.
-fn prepare<S: Source>(
-    alloc: Global,
-    words: &[String],
-    source: &mut S,
-) -> Result<(Status, String), Stop>
-    ensures told { IfOk result (λ a. IfSome (S.left source.old) (λ bytes. IsAnswer (map string_bytes words.now) bytes a.0 (string_bytes a.1))) }
-    ensures words { IfOk result (λ a. FitsWords (map string_bytes words.now) a.0 (string_bytes a.1)) }
-    ensures taken { IfOk result (λ a. IsDecided a.0 → IsAtEnd (S.left source.new)) }
-    ensures untouched { (IsReplay (map string_bytes words.now) → ⊥) → source.new ≡ source.old }
+fn prepare<S: Source>(alloc: Global, words: &[String], source: &mut S) -> Result<Prepared, Stop>
+    ensures told { IfOk result (λ a. IfSome (S.left source.old) (λ bytes. IsAnswer (map string_bytes words.now) bytes a.status a.text.items a.report)) }
+    ensures words { IfOk result (λ a. FitsWords (map string_bytes words.now) a.status a.text.items a.report) }
+    ensures taken { IfOk result (λ a. IsDecided a.status → IsAtEnd (S.left source.new)) }
+    ensures untouched { NamesNoJob (map string_bytes words.now) → source.new ≡ source.old }
     ensures fault { result ≡ Err Stop.ReadFault → Rose (S.faults source.old) (S.faults source.new) }
-    ensures job { result ≡ Err Stop.ReadFault → IsReplay (map string_bytes words.now) }
+    ensures named { NamesNoJob (map string_bytes words.now) → result ≡ Err Stop.ReadFault → ⊥ }
 {
-    if is_replay(words) {
-        find_answer(alloc, source)
-    } else {
-        Ok((Status::Usage, usage_line(alloc)?))
+    match Job::of_words(alloc, words)? {
+        Some(job) => find_answer(alloc, job, source),
+        None => Ok(plain(Status::Usage, usage_line(alloc)?)),
     }
 }
 
-/// Does the job that the words name, from a source to a sink. The words `replay` alone replay a certificate; other words
-/// are refused. The whole answer is made in memory before it is written.
+/// Does the job that the words ask for, from a source to a sink. The whole answer is made in memory before it is written.
+///
+/// - `replay` reads a complex and a certificate behind it, to the end, of at most 268,435,456 bytes together. A certificate of
+///   a sphere is replayed. One of another kind isn't yet, and is answered with `bad input form`.
+/// - `trace` reads a trace of at most 4,194,304 bytes, and runs its events.
+/// - `info` reads a complex of at most 4,194,304 bytes, behind which only blanks stand, and describes it.
+///
+/// They take all options, and use none. Words that ask for another job, or for none, are refused with the usage line. Bytes
+/// that spell no input of the job are answered with their first fault from left to right and its place.
 pub fn run_job<S: Source, K: Sink>(
     alloc: Global,
     words: &[String],
     source: &mut S,
     sink: &mut K,
 ) -> Answer
-    // What was appended to the sink is the text of the one answer to the words and the bytes.
-    ensures answer { IsWritten result.status → IfSome (S.left source.old) (λ bytes. Answered (K.written sink.old) (K.written sink.new) (IsAnswer (map string_bytes words.now) bytes result.status)) }
+    // What was appended to the sink is the text of the one answer to the words and the bytes, which has this report.
+    ensures answer { IsWritten result.status → IfSome (S.left source.old) (λ bytes. Answered (K.written sink.old) (K.written sink.new) (λ text. IsAnswer (map string_bytes words.now) bytes result.status text result.report)) }
 
-    // A Yes is exactly that the bytes are the canonical text of a complex and flips, and that the flips are legal in order
-    // from that complex and end in the boundary of a simplex.
-    ensures yes { IsWritten result.status → IfSome (S.left source.old) (λ bytes. (result.status ≡ Status.Yes) ↔ TellsSphere (map string_bytes words.now) bytes) }
+    // A Yes to `replay` is exactly that the bytes tell a complex and flips, and that the flips are legal in order from that
+    // complex and end in the boundary of a simplex.
+    ensures yes { IsJob (map string_bytes words.now) job.Replay → IsWritten result.status → IfSome (S.left source.old) (λ bytes. (result.status ≡ Status.Yes) ↔ TellsSphere bytes) }
+
+    // A Yes to `trace` is exactly that the bytes tell a trace, each event of which is accepted, and that nothing is pending
+    // at its end.
+    ensures clean { IsJob (map string_bytes words.now) job.Trace → IsWritten result.status → IfSome (S.left source.old) (λ bytes. (result.status ≡ Status.Yes) ↔ RunsClean bytes) }
+
+    // At Yes and No of `trace` the core that is reported began with the complex of the input, its journal is one legal
+    // history with each worker's entries whole, once and in order, and the text that was appended ends with that journal
+    // and the complex that it leads to.
+    ensures history { IsJob (map string_bytes words.now) job.Trace → IsDecided result.status → IfSome (S.left source.old) (λ bytes. Answered (K.written sink.old) (K.written sink.new) (λ text. TellsReport bytes text result.report)) }
+
+    // At Yes of `info` the bytes tell a complex, and the text that was appended describes it: its dimension, how many faces of
+    // each dimension it has, its Euler characteristic, and whether it is closed, strongly connected and orientable. There is
+    // no No.
+    ensures facts { IsJob (map string_bytes words.now) job.Info → result.status ≡ Status.Yes → IfSome (S.left source.old) (λ bytes. Answered (K.written sink.old) (K.written sink.new) (λ text. TellsFacts bytes text)) }
+    ensures info { IsJob (map string_bytes words.now) job.Info → result.status ≡ Status.No → ⊥ }
 
     // At Yes and No nothing of the input is left.
     ensures taken { IsDecided result.status → IsAtEnd (S.left source.new) }
 
     // Other words are refused with the usage line, and take nothing of the source.
-    ensures refused { (IsReplay (map string_bytes words.now) → ⊥) → RefusesWords result.status }
-    ensures untouched { (IsReplay (map string_bytes words.now) → ⊥) → source.new ≡ source.old }
+    ensures refused { NamesNoJob (map string_bytes words.now) → RefusesWords result.status }
+    ensures untouched { NamesNoJob (map string_bytes words.now) → source.new ≡ source.old }
     ensures usage { result.status ≡ Status.Usage → Appends (K.written sink.old) (K.written sink.new) usage_line }
-    ensures usage_begun { (IsReplay (map string_bytes words.now) → ⊥) → result.status ≡ Status.WriteFault → AppendsPrefix (K.written sink.old) (K.written sink.new) usage_line }
-    ensures job { IsReplay (map string_bytes words.now) → result.status ≡ Status.Usage → ⊥ }
+    ensures usage_begun { NamesNoJob (map string_bytes words.now) → result.status ≡ Status.WriteFault → AppendsPrefix (K.written sink.old) (K.written sink.new) usage_line }
+    ensures job { (j : Job) → IsJob (map string_bytes words.now) j → result.status ≡ Status.Usage → ⊥ }
 
     // When reading or writing fails, and what was written then.
     ensures read { result.status ≡ Status.ReadFault → Rose (S.faults source.old) (S.faults source.new) }
     ensures write { result.status ≡ Status.WriteFault → Rose (K.faults sink.old) (K.faults sink.new) }
-    ensures prefix { result.status ≡ Status.WriteFault → IfSome (S.left source.old) (λ bytes. BegunWith (K.written sink.old) (K.written sink.new) (IsAnswer (map string_bytes words.now) bytes)) }
+    ensures prefix { result.status ≡ Status.WriteFault → IfSome (S.left source.old) (λ bytes. BegunWith (K.written sink.old) (K.written sink.new) (λ status text. IsAnswer (map string_bytes words.now) bytes status text result.report)) }
     ensures nothing { WritesNothing result.status → Keeps (K.written sink.old) (K.written sink.new) }
 
     ensures decided { result.status ≡ Status.Undecided → ⊥ }
-    ensures report { result.report ≡ report.Nothing }
+
+    // A core is reported at Yes and No of `trace`, and where such an answer could not be written.
+    ensures reported { (j : Job) → IsJob (map string_bytes words.now) j → IsDecided result.status → FitsJob j result.report }
+    ensures silent { ReportsNothing result.status → result.report ≡ report.Nothing }
+    ensures report { (IsJob (map string_bytes words.now) job.Trace → ⊥) → result.report ≡ report.Nothing }
 {
-    let status = match prepare(alloc, words, source) {
-        Ok((status, text)) => match write_all(sink, text.as_bytes()) {
-            Ok(()) => status,
-            Err(Failed) => Status::WriteFault,
+    match prepare(alloc, words, source) {
+        Ok(
+            Prepared {
+                status,
+                text,
+                report,
+            },
+        ) => match write_all(sink, &text) {
+            Ok(()) => Answer { status, report },
+            Err(Failed) => Answer {
+                status: Status::WriteFault,
+                report,
+            },
         },
-        Err(Stop::ReadFault) => Status::ReadFault,
-        Err(Stop::NoMemory) => Status::NoMemory,
-    };
-    Answer {
-        status,
-        report: JobReport::Nothing,
+        Err(Stop::ReadFault) => Answer {
+            status: Status::ReadFault,
+            report: JobReport::Nothing,
+        },
+        Err(Stop::NoMemory) => Answer {
+            status: Status::NoMemory,
+            report: JobReport::Nothing,
+        },
     }
 }

@@ -1,15 +1,21 @@
 //! The jobs of the program.
 #![tactic(auto)]
 
-mod input;
+mod fault;
+mod info;
 mod job;
 mod law;
-mod scan;
+mod replay;
 mod text;
+mod trace;
 mod verdict;
 
 pub use job::{Answer, JobReport, Status, run_job};
-pub use law::{answer_is_one, input_is_one};
+pub use law::answer_is_one;
 
 #[cfg(test)]
 mod tests;
+#[cfg(test)]
+mod tests_info;
+#[cfg(test)]
+mod tests_trace;

@@ -10,25 +10,27 @@ const OCT: &str =
 
 const NO_FLIPS: &str = "\nbistellar 1 sphere\nflips 0\n";
 
-const FORM: &str = "bad input form\n";
-
 const WRONG_END: &str = "no\nwrong end\n";
 
 const USAGE: &str =
     "usage: bistellar JOB [--workers N] [--seed N] [--rounds N] [--tries N] [--heat N] [--relax N] [--depth N] [--room N] [--kind NAME] [--dim N] [--draws N]\n";
 
-// Does the job of some words on a text. The source gives pieces of 8 bytes, the sink takes 4, and each fails at one call.
+// Does what a line of words asks for on some bytes. The source gives pieces of 8 bytes, the sink takes 4, and each fails at
+// one call.
 fn run_words(
     alloc: Global,
-    words: &[String],
-    text: &str,
+    line: &str,
+    bytes: &[u8],
     read_fails: u64,
     write_fails: u64,
 ) -> Result<(Status, Vec<u8>), AllocError> {
-    let bytes = text.as_bytes().to_vec(alloc)?;
-    let mut source = MemSource::new(bytes, 8, vec![in alloc; read_fails]?);
+    let mut words = Vec::new(alloc);
+    for word in line.split_terminator(',') {
+        words.push(String::from_str(alloc, word)?)?;
+    }
+    let mut source = MemSource::new(bytes.to_vec(alloc)?, 8, vec![in alloc; read_fails]?);
     let mut sink = MemSink::new(alloc, 1000, 4, vec![in alloc; write_fails]?)?;
-    let answer = run_job(alloc, words, &mut source, &mut sink);
+    let answer = run_job(alloc, &words, &mut source, &mut sink);
     Ok((answer.status, sink.bytes().to_vec(alloc)?))
 }
 
@@ -38,9 +40,7 @@ fn run_failing(
     read_fails: u64,
     write_fails: u64,
 ) -> Result<(Status, Vec<u8>), AllocError> {
-    let mut words = Vec::new(alloc);
-    words.push(String::from_str(alloc, "replay")?)?;
-    run_words(alloc, &words, text, read_fails, write_fails)
+    run_words(alloc, "replay", text.as_bytes(), read_fails, write_fails)
 }
 
 fn run(alloc: Global, text: &str) -> Result<(Status, Vec<u8>), AllocError> {
@@ -69,7 +69,6 @@ fn flips_are_replayed(rt: HostRuntime) -> Result<(), Fail> {
         (OCT, two, 0, 0, Status::No, WRONG_END),
         (OCT, three, 2, 0, Status::ReadFault, ""),
         (TET, "flips 0\n", 0, 3, Status::WriteFault, "yes\nflip"),
-        (TET, "flips 1\n", 0, 0, Status::BadInput, FORM),
     ];
     for (complex, flips, read_fails, write_fails, status, text) in cases {
         let input = format!(in rt.alloc(); "{complex}{flips}")?;
@@ -80,13 +79,114 @@ fn flips_are_replayed(rt: HostRuntime) -> Result<(), Fail> {
     Ok(())
 }
 
+// From the first to the last of these, so many bytes have this fault at their end, but not behind this place.
+const PARTS: [(usize, usize, &str, usize); 13] = [
+    (0, 66, "syntax", 66),
+    (67, 74, "syntax", 66),
+    (75, 78, "syntax", 78),
+    (79, 83, "syntax", 78),
+    (84, 85, "syntax", 85),
+    (86, 89, "syntax", 85),
+    (90, 91, "syntax", 91),
+    (92, 93, "count", 93),
+    (94, 99, "syntax", 99),
+    (100, 103, "count", 103),
+    (104, 107, "syntax", 107),
+    (108, 113, "count", 113),
+    (114, 117, "syntax", 117),
+];
+
 #[test]
-fn a_part_of_an_input_is_none(rt: HostRuntime) -> Result<(), Fail> {
-    let input = format!(in rt.alloc(); "{OCT}flips 2\n1 2 | 3 4\n1 | 3 4 5\n")?;
-    for (end, _) in input.char_indices() {
-        let (status, written) = run(rt.alloc(), &input[..end])?;
-        assert_eq!(rt; status, Status::BadInput, "at {end}");
-        assert_eq!(rt; written.as_slice(), FORM.as_bytes());
+fn a_part_of_an_input_has_a_fault_at_its_end(rt: HostRuntime) -> Result<(), Fail> {
+    let input = format!(in rt.alloc(); "{OCT}flips 3\n1 2 | 3 4\n1 | 3 4 5\n2 | 3 4 6")?;
+    for (first, last, fault, place) in PARTS {
+        for count in first..last + 1 {
+            let Some(part) = input.as_bytes().get(..count) else {
+                panic!(rt; "too short");
+            };
+            let at = if count < place { count } else { place };
+            let text = format!(in rt.alloc(); "bad input {fault} {at}\n")?;
+            let (status, written) = run_words(rt.alloc(), "replay", part, 0, 0)?;
+            assert_eq!(rt; status, Status::BadInput, "at {count}");
+            assert_eq!(rt; written.as_slice(), text.as_bytes());
+        }
+    }
+    for count in 118..123 {
+        let Some(part) = input.as_bytes().get(..count) else {
+            panic!(rt; "too short");
+        };
+        let text = if count < 122 {
+            "no\nflip 3 shape\n"
+        } else {
+            "yes\nflips 3\nfacets 4\n"
+        };
+        let (_, written) = run_words(rt.alloc(), "replay", part, 0, 0)?;
+        assert_eq!(rt; written.as_slice(), text.as_bytes());
+    }
+    Ok(())
+}
+
+// Whole inputs, and the first fault of each.
+const FAULTS: [(&str, &str); 13] = [
+    ("[[1,2,3],[1,2", "syntax 13"),
+    ("", "syntax 0"),
+    ("[[1,2,3,4,5,6,7,8]]\n", "size 1"),
+    ("[[1,60001]]\n", "label 4"),
+    ("[[0,1]]\n", "label 2"),
+    ("[[1,1]]\n", "twice 4"),
+    ("[[1,2],[1,2,3]]\n", "not pure 7"),
+    (
+        "[[1,2,3],[1,2,4],[1,3,4],[2,3,4]]\nbistellar 1 sphere\nflips 2\n1 2 3 | 5\n",
+        "count 71",
+    ),
+    (
+        "[[1,2,3],[1,2,4],[1,3,4],[2,3,4]]\nbistellar 1 sphere\nflips 4294967295\n",
+        "count 70",
+    ),
+    (
+        "[[1,2,3],[1,2,4],[1,3,4],[2,3,4]]\nbistellar 1 sphere\nflips 4294967296\n",
+        "syntax 59",
+    ),
+    ("[[1,2]]\nbistellar 1 equal\n[[1,1]]\n", "twice 30"),
+    (
+        "[[1,2]]\nbistellar 1 equal\n[[1,2]]\nflips 0\nmap 0\n",
+        "form",
+    ),
+    ("[[1,2]]\nbistellar 1 manifold\nvertices 0\n", "form"),
+];
+
+#[test]
+fn the_first_fault_is_answered(rt: HostRuntime) -> Result<(), Fail> {
+    for (input, fault) in FAULTS {
+        let text = format!(in rt.alloc(); "bad input {fault}\n")?;
+        let (status, written) = run(rt.alloc(), input)?;
+        assert_eq!(rt; status, Status::BadInput, "at {input}");
+        assert_eq!(rt; written.as_slice(), text.as_bytes());
+    }
+    Ok(())
+}
+
+// Texts of the tetrahedron's boundary and a certificate: on one line, as GAP prints them, and with carriage returns.
+const SPELLINGS: [(&str, &str); 3] = [
+    (
+        " K:=[[2,1,3],[4,2,1],[1,3,4],[2,3,4]]; bistellar 1 sphere\nflips 00",
+        "yes\nflips 0\nfacets 4\n",
+    ),
+    (
+        "K := [ [ 2, 3, 4 ], [ 1, 3, 4 ],\n  [ 1, 2, 4 ], [ 1, 2, 3 ] ];\nbistellar 1 sphere\nflips 1\n1 2 | 3 4\n",
+        "no\nflip 1 b-face\n",
+    ),
+    (
+        "[[1,2,3],[1,2,4],[1,3,4],[2,3,4]]\r\nbistellar 1 sphere\r\nflips 2\r\n1 2 3 | 5\r\n5 | 3 2 1\r\n",
+        "yes\nflips 2\nfacets 4\n",
+    ),
+];
+
+#[test]
+fn an_input_may_be_spelled_freely(rt: HostRuntime) -> Result<(), Fail> {
+    for (input, text) in SPELLINGS {
+        let (_, written) = run(rt.alloc(), input)?;
+        assert_eq!(rt; written.as_slice(), text.as_bytes());
     }
     Ok(())
 }
@@ -122,13 +222,20 @@ fn limits_hold_on_both_sides(rt: HostRuntime) -> Result<(), Fail> {
     let tet = "[[1,2,3],[1,2,4],[1,3,4],[2,3,4]]";
     let cases = [
         ("[[1,60000]]", "flips 0\n", Status::No, WRONG_END),
-        ("[[1,60001]]", "flips 0\n", Status::BadInput, FORM),
-        ("[[0,1]]", "flips 0\n", Status::BadInput, FORM),
-        ("[[1],[2]]", "flips 0\n", Status::BadInput, FORM),
+        (
+            "[[1],[2]]",
+            "flips 0\n",
+            Status::BadInput,
+            "bad input size 1\n",
+        ),
         (seven, "flips 0\n", Status::Yes, "yes\nflips 0\nfacets 8\n"),
-        ("[[1,2,3,4,5,6,7,8]]", "flips 0\n", Status::BadInput, FORM),
         (tet, "flips 1\n1 2 3 | 65000\n", Status::No, WRONG_END),
-        (tet, "flips 1\n1 2 3 | 65001\n", Status::BadInput, FORM),
+        (
+            tet,
+            "flips 1\n1 2 3 | 65001\n",
+            Status::BadInput,
+            "bad input label 69\n",
+        ),
         (
             tet,
             "flips 1\n1 2 3 4 5 6 7 | 9\n",
@@ -139,7 +246,7 @@ fn limits_hold_on_both_sides(rt: HostRuntime) -> Result<(), Fail> {
             tet,
             "flips 1\n1 2 3 4 5 6 7 8 | 9\n",
             Status::BadInput,
-            FORM,
+            "bad input syntax 75\n",
         ),
         (
             tet,
@@ -203,28 +310,44 @@ fn path(alloc: Global, count: u32) -> Result<String, AllocError> {
 #[test]
 fn facets_and_labels_are_limited(rt: HostRuntime) -> Result<(), Fail> {
     let cases = [
-        (edges(rt.alloc(), 20_000)?, Status::No),
-        (edges(rt.alloc(), 20_001)?, Status::BadInput),
-        (path(rt.alloc(), 4_096)?, Status::No),
-        (path(rt.alloc(), 4_097)?, Status::BadInput),
+        (edges(rt.alloc(), 20_000)?, WRONG_END),
+        (edges(rt.alloc(), 20_001)?, "bad input too many facets\n"),
+        (path(rt.alloc(), 4_096)?, WRONG_END),
+        (path(rt.alloc(), 4_097)?, "bad input too many labels\n"),
     ];
-    for (input, status) in &cases {
-        let (ended, _) = run(rt.alloc(), input)?;
-        assert_eq!(rt; ended, *status);
+    for (input, text) in &cases {
+        let (_, written) = run(rt.alloc(), input)?;
+        assert_eq!(rt; written.as_slice(), text.as_bytes());
+    }
+    Ok(())
+}
+
+#[test]
+fn options_are_passed_over(rt: HostRuntime) -> Result<(), Fail> {
+    let input = format!(in rt.alloc(); "{TET}flips 0\n")?;
+    for line in ["replay,--seed,7", "--kind=cross,--dim,6,replay"] {
+        let (status, written) = run_words(rt.alloc(), line, input.as_bytes(), 0, 0)?;
+        assert_eq!(rt; status, Status::Yes, "at {line}");
+        assert_eq!(rt; written.as_slice(), "yes\nflips 0\nfacets 4\n".as_bytes());
     }
     Ok(())
 }
 
 #[test]
 fn other_words_are_refused(rt: HostRuntime) -> Result<(), Fail> {
-    let cases = ["", "info", "replay ", "replay,replay"];
-    for case in cases {
-        let mut words = Vec::new(rt.alloc());
-        for word in case.split_terminator(',') {
-            words.push(String::from_str(rt.alloc(), word)?)?;
-        }
-        let (status, written) = run_words(rt.alloc(), &words, TET, 0, 0)?;
-        assert_eq!(rt; status, Status::Usage, "at {case}");
+    let lines = [
+        "",
+        "sphere",
+        "Replay",
+        "replay ",
+        "replay,trace",
+        "replay,--workers,17",
+        "replay,--rounds,10000",
+        "trace,--kind,torus,--dim,3",
+    ];
+    for line in lines {
+        let (status, written) = run_words(rt.alloc(), line, TET.as_bytes(), 0, 0)?;
+        assert_eq!(rt; status, Status::Usage, "at {line}");
         assert_eq!(rt; written.as_slice(), USAGE.as_bytes());
     }
     Ok(())
@@ -245,6 +368,5 @@ fn statuses_have_their_numbers(rt: HostRuntime) {
     for (status, number) in statuses {
         assert_eq!(rt; status.number(), number);
     }
-    input_is_one();
     answer_is_one();
 }

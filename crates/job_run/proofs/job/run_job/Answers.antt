@@ -1,17 +1,33 @@
-use Rattle.std.proofs.Common.{◌≡◌, map, string_bytes, subst, sym}
-use Rattle.std.specs.Prelude.{IfSome, ◌↔◌}
-use Rattle.job_run.specs.Answers.{IsWritten, TellsSphere}
-use Rattle.job_run.specs.declared.job.Status.{Status}
-use Rattle.job_run.specs.declared.job.Status.TheVariants.{Yes}
-use Rattle.job_run.proofs.Answering.{yes_is_known}
-use Rattle.job_run.proofs.job.run_job.Goals.{in-Ok-write_all, in-Err}
+use Rattle.std.proofs.Common.{map, string_bytes, rules}
+use Rattle.job_run.proofs.Answering.{answer_is_known, begun_is_known, yes_is_known, clean_is_known, history_is_known, facts_are_known, info_words, refused_words, asking_words, begun_usage}
 use Rattle.job_run.proofs.job.run_job.Goals as goal
 
-pub returns-after-write_all-clause-yes : goal.returns-after-write_all-clause-yes
-returns-after-write_all-clause-yes g c =
-    let P : Status → Type 0 = λ s. IsWritten s → IfSome (g.S.Source.left c.args.source.now) (λ bytes. (s ≡ Yes) ↔ TellsSphere (map string_bytes c.args.words.now) bytes) in
-    let W : Status → Type 0 = λ s. IsWritten s in
-    elim c.match-write_all.branch [
-      | in-Ok-write_all w ↦ subst P (sym w.status-is) (λ written. yes_is_known (g.S.Source.left c.args.source.now) (map string_bytes c.args.words.now) c.in-Ok.status (string_bytes c.in-Ok.text) c.in-Ok.ensures.told)
-      | in-Err w ↦ λ written. absurd (subst W w.status-is written)
-    ]
+pub returns-in-Ok-write_all-clause-answer : goal.returns-in-Ok-write_all-clause-answer
+returns-in-Ok-write_all-clause-answer g c = λ w. answer_is_known (g.S.Source.left c.args.source.now) (g.K.Sink.written c.args.sink.now) (g.K.Sink.written c.write_all.new.sink) (map string_bytes c.args.words.now) c.in-Ok.field-0.status c.in-Ok.field-0.text.items c.in-Ok.field-0.report (search rules) (search rules)
+
+pub returns-in-Ok-write_all-clause-yes : goal.returns-in-Ok-write_all-clause-yes
+returns-in-Ok-write_all-clause-yes g c = λ n w. yes_is_known (g.S.Source.left c.args.source.now) (map string_bytes c.args.words.now) c.in-Ok.field-0.status c.in-Ok.field-0.text.items c.in-Ok.field-0.report (search rules) n
+
+pub returns-in-Ok-write_all-clause-clean : goal.returns-in-Ok-write_all-clause-clean
+returns-in-Ok-write_all-clause-clean g c = λ n w. clean_is_known (g.S.Source.left c.args.source.now) (map string_bytes c.args.words.now) c.in-Ok.field-0.status c.in-Ok.field-0.text.items c.in-Ok.field-0.report (search rules) n
+
+pub returns-in-Ok-write_all-clause-history : goal.returns-in-Ok-write_all-clause-history
+returns-in-Ok-write_all-clause-history g c = λ n d. history_is_known (g.S.Source.left c.args.source.now) (g.K.Sink.written c.args.sink.now) (g.K.Sink.written c.write_all.new.sink) (map string_bytes c.args.words.now) c.in-Ok.field-0.status c.in-Ok.field-0.text.items c.in-Ok.field-0.report (search rules) (search rules) n d
+
+pub returns-in-Ok-clause-prefix : goal.returns-in-Ok-clause-prefix
+returns-in-Ok-clause-prefix g c = λ w. begun_is_known (g.S.Source.left c.args.source.now) (g.K.Sink.written c.args.sink.now) (g.K.Sink.written c.write_all.new.sink) (map string_bytes c.args.words.now) c.in-Ok.field-0.status c.in-Ok.field-0.text.items c.in-Ok.field-0.report (search rules) (search rules)
+
+pub returns-in-Ok-write_all-clause-refused : goal.returns-in-Ok-write_all-clause-refused
+returns-in-Ok-write_all-clause-refused g c = λ n. refused_words (map string_bytes c.args.words.now) c.in-Ok.field-0.status c.in-Ok.field-0.text.items c.in-Ok.field-0.report (search rules) n
+
+pub returns-in-Ok-write_all-clause-job : goal.returns-in-Ok-write_all-clause-job
+returns-in-Ok-write_all-clause-job g c = λ j n e. asking_words (map string_bytes c.args.words.now) c.in-Ok.field-0.status c.in-Ok.field-0.text.items c.in-Ok.field-0.report (search rules) j n e
+
+pub returns-in-Ok-clause-usage_begun : goal.returns-in-Ok-clause-usage_begun
+returns-in-Ok-clause-usage_begun g c = λ n w. begun_usage (g.K.Sink.written c.args.sink.now) (g.K.Sink.written c.write_all.new.sink) (map string_bytes c.args.words.now) c.in-Ok.field-0.status c.in-Ok.field-0.text.items c.in-Ok.field-0.report (search rules) n (search rules)
+
+pub returns-in-Ok-write_all-clause-facts : goal.returns-in-Ok-write_all-clause-facts
+returns-in-Ok-write_all-clause-facts g c = λ n e. facts_are_known (g.S.Source.left c.args.source.now) (g.K.Sink.written c.args.sink.now) (g.K.Sink.written c.write_all.new.sink) (map string_bytes c.args.words.now) c.in-Ok.field-0.status c.in-Ok.field-0.text.items c.in-Ok.field-0.report (search rules) (search rules) n e
+
+pub returns-in-Ok-write_all-clause-info : goal.returns-in-Ok-write_all-clause-info
+returns-in-Ok-write_all-clause-info g c = λ n e. info_words (map string_bytes c.args.words.now) c.in-Ok.field-0.status c.in-Ok.field-0.text.items c.in-Ok.field-0.report (search rules) n e
