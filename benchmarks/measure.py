@@ -7,7 +7,7 @@ import subprocess
 import sys
 import time
 
-path, count, unit, command = sys.argv[1], int(sys.argv[2]), sys.argv[3], sys.argv[4:]
+path, count, unit, command = sys.argv[1], float(sys.argv[2]), sys.argv[3], sys.argv[4:]
 with open(path, "rb") as stdin:
     began = time.monotonic()
     ran = subprocess.run(command, stdin=stdin, stdout=subprocess.PIPE)
