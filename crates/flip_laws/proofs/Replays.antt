@@ -5,9 +5,8 @@ use Rattle.complex_core.specs.Spaces.{Space, IsComplex}
 use Rattle.flip_rules.specs.declared.flip.Flip.{Flip}
 use Rattle.flip_rules.specs.Flips.{why, flipped, replay}
 use Rattle.flip_rules.proofs.Legal.{legal}
-use Rattle.flip_rules.proofs.Back.{undoes}
-use Rattle.flip_rules.proofs.Replays.{first_flip, replay_then, complex_flipped}
-use Rattle.flip_laws.specs.Keeping.{Keeps, ReplayKeeps, back, ReplaysBack}
+use Rattle.flip_rules.proofs.Replays.{first_flip, complex_flipped}
+use Rattle.flip_laws.specs.Keeping.{Keeps, ReplayKeeps}
 use Rattle.flip_laws.proofs.Exchange.{Exchange, turned, made_exchange}
 use Rattle.flip_laws.proofs.RidgesKept.{closed_kept, thin_kept, boundary_kept}
 use Rattle.flip_laws.proofs.ChainsKept.{strong_kept}
@@ -53,12 +52,3 @@ replay_keeps k l (f ∷ flips) h fs e =
     let p : (why k f.a f.b ≡ Ok tt) × (replay (flipped k f.a f.b) flips ≡ Some l) = first_flip k l f flips e in
     let q : IsComplex l × Keeps (flipped k f.a f.b) l = replay_keeps (flipped k f.a f.b) l flips (complex_flipped k f.a f.b h fs.0.first fs.0.second p.0) fs.1 p.1 in
     (q.0, keeps_on k (flipped k f.a f.b) l (flip_keeps k f.a f.b h fs.0.first fs.0.second p.0) q.1)
-
--- the inverse list of a replay replays back
-pub replays_back : ReplaysBack
-replays_back k l [] h fs e = let p : k ≡ l = cc in ap Some (sym p)
-replays_back k l (f ∷ flips) h fs e =
-    let p : (why k f.a f.b ≡ Ok tt) × (replay (flipped k f.a f.b) flips ≡ Some l) = first_flip k l f flips e in
-    let q : replay l (back flips) ≡ Some (flipped k f.a f.b) = replays_back (flipped k f.a f.b) l flips (complex_flipped k f.a f.b h fs.0.first fs.0.second p.0) fs.1 p.1 in
-    let u : (why (flipped k f.a f.b) f.b f.a ≡ Ok tt) × (flipped (flipped k f.a f.b) f.b f.a ≡ k) = undoes k f.a f.b h.rising p.0 in
-    replay_then l (flipped k f.a f.b) (back flips) (record { a = f.b; b = f.a }) q u.0 ∙ ap Some u.1

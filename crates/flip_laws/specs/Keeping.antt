@@ -1,5 +1,5 @@
 -- What a legal flip keeps of a complex, in both directions, and so every replay.
-use Rattle.std.specs.Prelude.{◌≡◌, ◌↔◌, ℕ, List, [], ◌∷◌, ◌++◌, nat_eq, filter, map, Some}
+use Rattle.std.specs.Prelude.{◌≡◌, ◌↔◌, ℕ, List, nat_eq, filter, map, Some}
 use Rattle.std.specs.List.{AllByRecursion, flat_map}
 use Rattle.complex_core.specs.Labels.{without, face_cmp}
 use Rattle.complex_core.specs.Rising.{rising}
@@ -32,12 +32,3 @@ pub record Keeps (k l : Space) : Type 0 where
 -- flips one after another lead from a complex to a complex, and keep these facts
 abbrev pub ReplayKeeps : Type 0
 ReplayKeeps = (k l : Space) (flips : List Flip) → IsComplex k → AllByRecursion OfFaces flips → replay k flips ≡ Some l → IsComplex l × Keeps k l
-
--- the inverse flips, last first
-abbrev pub back : List Flip → List Flip
-back [] = []
-back (f ∷ flips) = back flips ++ record { a = f.b; b = f.a } ∷ []
-
--- they lead back
-abbrev pub ReplaysBack : Type 0
-ReplaysBack = (k l : Space) (flips : List Flip) → IsComplex k → AllByRecursion OfFaces flips → replay k flips ≡ Some l → replay l (back flips) ≡ Some k

@@ -1,6 +1,6 @@
 ghost use Rattle.std.specs.Prelude.{◌≡◌, Ok, Err, OnOk, OnErr, IfErr};
 ghost use Rattle.flip_rules.specs.Flips.{why, flipped, FlipRefused, OfFaces};
-ghost use Rattle.flip_laws.specs.Keeping.{Keeps, ReplayKeeps, ReplaysBack};
+ghost use Rattle.flip_laws.specs.Keeping.{Keeps, ReplayKeeps};
 
 use complex_core::Complex;
 use flip_rules::{Flip, FlipFault, Illegal, apply};
@@ -30,8 +30,7 @@ pub fn flip_keeping(complex: &mut Complex, flip: &Flip) -> Result<(), FlipFault>
     }
 }
 
-/// Flips one after another keep what one flip keeps, and the inverse flips, last first, lead back.
+/// Flips one after another keep what one flip keeps.
 pub fn keeping_law()
     ensures replay { ReplayKeeps }
-    ensures back { ReplaysBack }
 {}

@@ -7,10 +7,11 @@ use Rattle.complex_core.specs.Spaces.{Space, IsComplex}
 use Rattle.complex_core.proofs.Sorting.{exchanged}
 use Rattle.flip_rules.specs.Flips.{sides, why, flipped, if_legal, replay, OfFaces, CanPut}
 use Rattle.flip_rules.specs.Certificates.{IsFirstIllegal}
-use Rattle.flip_rules.specs.Laws.{ReplayGoesOn, ReplayKeepsComplexes, ReplayDecides, FirstIllegalExcludes, FirstIllegalIsOne}
+use Rattle.flip_rules.specs.Laws.{ReplayGoesOn, ReplayKeepsComplexes, inverse_list, ReplaysBack, ReplayDecides, FirstIllegalExcludes, FirstIllegalIsOne}
 use Rattle.flip_rules.specs.declared.flip.Flip.{Flip}
 use Rattle.flip_rules.specs.declared.flip.Illegal.{Illegal}
 use Rattle.flip_rules.proofs.Legal.{can_put}
+use Rattle.flip_rules.proofs.Back.{undoes}
 
 -- where a legal flip leads
 legal_first : (k m : Space) (a b : List ℕ) (r : Result (Unit {0}) Illegal) (rest : Option Space) → why k a b ≡ r → if_legal r rest ≡ Some m → (why k a b ≡ Ok tt) × (rest ≡ Some m)
@@ -63,6 +64,15 @@ complex_replayed k m (f ∷ fs) h faces r =
 
 pub keeps_complexes : ReplayKeepsComplexes
 keeps_complexes k m fs h faces r = record { dim = replay_dim k m fs r; complex = complex_replayed k m fs h faces r }
+
+-- the inverse list of a replay replays back
+pub replays_back : ReplaysBack
+replays_back k m [] h faces r = ap Some (sym (same_Some k m r))
+replays_back k m (f ∷ fs) h faces r =
+    let p : (why k f.a f.b ≡ Ok tt) × (replay (flipped k f.a f.b) fs ≡ Some m) = first_flip k m f fs r in
+    let q : replay m (inverse_list fs) ≡ Some (flipped k f.a f.b) = replays_back (flipped k f.a f.b) m fs (complex_flipped k f.a f.b h faces.0.first faces.0.second p.0) faces.1 p.1 in
+    let u : (why (flipped k f.a f.b) f.b f.a ≡ Ok tt) × (flipped (flipped k f.a f.b) f.b f.a ≡ k) = undoes k f.a f.b h.rising p.0 in
+    replay_then m (flipped k f.a f.b) (inverse_list fs) (record { a = f.b; b = f.a }) q u.0 ∙ ap Some u.1
 
 -- ---- the first illegal flip
 

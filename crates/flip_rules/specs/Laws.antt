@@ -1,5 +1,5 @@
 -- The laws of replays.
-use Rattle.std.specs.Prelude.{◌≡◌, ℕ, ◌<◌, ◌⊎◌, List, ◌++◌, length, Some}
+use Rattle.std.specs.Prelude.{◌≡◌, ℕ, ◌<◌, ◌⊎◌, List, [], ◌∷◌, ◌++◌, length, Some}
 use Rattle.std.specs.List.{AllByRecursion}
 use Rattle.complex_core.specs.Spaces.{Space, IsComplex, IsFacet}
 use Rattle.flip_rules.specs.Flips.{OfFaces, replay}
@@ -19,6 +19,15 @@ pub record StaysComplex (k m : Space) : Type 0 where
 
 abbrev pub ReplayKeepsComplexes : Type 0
 ReplayKeepsComplexes = (k m : Space) (fs : List Flip) → IsComplex k → AllByRecursion OfFaces fs → replay k fs ≡ Some m → StaysComplex k m
+
+-- the inverse flips, last first
+abbrev pub inverse_list : List Flip → List Flip
+inverse_list [] = []
+inverse_list (f ∷ fs) = inverse_list fs ++ record { a = f.b; b = f.a } ∷ []
+
+-- they lead back
+abbrev pub ReplaysBack : Type 0
+ReplaysBack = (k m : Space) (fs : List Flip) → IsComplex k → AllByRecursion OfFaces fs → replay k fs ≡ Some m → replay m (inverse_list fs) ≡ Some k
 
 -- the flips come to an end, or one of them is the first illegal one
 abbrev pub ReplayDecides : Type 0

@@ -1,4 +1,4 @@
-use Rattle.flip_rules.proofs.Replays.{replay-append, keeps_complexes, decides_replay, never_both, first_is_one}
+use Rattle.flip_rules.proofs.Replays.{replay-append, keeps_complexes, replays_back, decides_replay, never_both, first_is_one}
 use Rattle.flip_rules.proofs.laws.replay_law.Goals as goal
 
 pub returns-clause-goes_on : goal.returns-clause-goes_on
@@ -15,3 +15,6 @@ returns-clause-excludes c = never_both
 
 pub returns-clause-one : goal.returns-clause-one
 returns-clause-one c = first_is_one
+
+pub returns-clause-back : goal.returns-clause-back
+returns-clause-back c = replays_back
