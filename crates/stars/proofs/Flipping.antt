@@ -1,0 +1,132 @@
+-- A flip on the stars of its own labels.
+use Rattle.std.proofs.Common.{◌≡◌, ℕ, ◌≤◌, Bool, true, false, cond, not, if◌then◌else◌, ◌||◌, List, [], ◌∷◌, ◌++◌, length, map, Ok, sym, ◌∙◌, ap, refl, subst, arith}
+use Rattle.std.specs.List.{filter, AllByRecursion}
+use Rattle.std.proofs.lemmas.List.{length-map}
+use Rattle.complex_core.specs.Labels.{IsFace, IsRising, has, holds, union, without, face_cmp}
+use Rattle.std.specs.Ordering.{nat_cmp}
+use Rattle.complex_core.specs.Rising.{rising}
+use Rattle.complex_core.specs.Spaces.{Space, IsComplex, IsFacet, over, beside, staying, is_facet}
+use Rattle.complex_core.proofs.Sets.{above_tail}
+use Rattle.complex_core.proofs.Laws.{has-union, holds_each, holds_has, length_union_le}
+use Rattle.flip_rules.specs.Flips.{why, flipped, sides, Legal, CanPut, OfFaces}
+use Rattle.flip_rules.proofs.Legal.{legal}
+use Rattle.flip_rules.proofs.Links.{staying_sides}
+use Rattle.flip_rules.proofs.Replays.{complex_flipped}
+use Rattle.flip_rules.specs.declared.flip.Flip.{Flip}
+use Rattle.star_laws.specs.Stars.{star, star_after}
+use Rattle.star_laws.proofs.FlipStars.{star_flipped as star_seen, other_star}
+use Rattle.stars.specs.StarViews.{VertexStar, vertices, IsStarOf, AreStarsOf, HasLabels}
+use Rattle.stars.specs.FlipsHere.{star_flipped, stars_flipped}
+use Rattle.stars.specs.Changes.{star_changed, stars_changed, CanChange}
+
+-- two tests in either order
+filter_swap : (p q : List ℕ → Bool) (fs : List (List ℕ)) → filter p (filter q fs) ≡ filter q (filter p fs)
+filter_swap p q [] = refl
+filter_swap p q (f ∷ fs) = both (filter_swap p q fs) (p f) (q f) refl refl
+  where
+    both : filter p (filter q fs) ≡ filter q (filter p fs) → (b c : Bool) → p f ≡ b → q f ≡ c → filter p (filter q (f ∷ fs)) ≡ filter q (filter p (f ∷ fs))
+    both h true true e g =
+        ap (λ t. filter p (cond t (f ∷ filter q fs) (filter q fs))) g ∙ ap (λ t. cond t (f ∷ filter p (filter q fs)) (filter p (filter q fs))) e
+        ∙ ap (λ gs. f ∷ gs) h
+        ∙ sym (ap (λ t. filter q (cond t (f ∷ filter p fs) (filter p fs))) e ∙ ap (λ t. cond t (f ∷ filter q (filter p fs)) (filter q (filter p fs))) g)
+    both h true false e g =
+        ap (λ t. filter p (cond t (f ∷ filter q fs) (filter q fs))) g
+        ∙ h
+        ∙ sym (ap (λ t. filter q (cond t (f ∷ filter p fs) (filter p fs))) e ∙ ap (λ t. cond t (f ∷ filter q (filter p fs)) (filter q (filter p fs))) g)
+    both h false true e g =
+        ap (λ t. filter p (cond t (f ∷ filter q fs) (filter q fs))) g ∙ ap (λ t. cond t (f ∷ filter p (filter q fs)) (filter p (filter q fs))) e
+        ∙ h
+        ∙ sym (ap (λ t. filter q (cond t (f ∷ filter p fs) (filter p fs))) e)
+    both h false false e g =
+        ap (λ t. filter p (cond t (f ∷ filter q fs) (filter q fs))) g
+        ∙ h
+        ∙ sym (ap (λ t. filter q (cond t (f ∷ filter p fs) (filter p fs))) e)
+
+-- to take the sides out of a star is to take out its rows that contain A
+staying_star : (fs : List (List ℕ)) (a b : List ℕ) (v : ℕ) → over fs a ≡ rising face_cmp (sides a b) → staying (star fs v) (sides a b) ≡ beside (star fs v) a
+staying_star fs a b v e =
+    filter_swap (λ f. not (is_facet (sides a b) f)) (λ f. holds f (v ∷ [])) fs
+    ∙ ap (λ gs. star gs v) (staying_sides fs a b e)
+    ∙ filter_swap (λ f. holds f (v ∷ [])) (λ f. not (holds f a)) fs
+
+-- ---- what the change asks
+
+pub union_fits : (d : ℕ) (a b : List ℕ) → CanPut d a b → length (union a b) ≤ 8
+union_fits d a b p = omega (arith, p.few, length_union_le a b)
+
+all_dims : (near : List VertexStar) (k : Space) (more : List (List ℕ)) → AllByRecursion (IsStarOf k) near → AllByRecursion (IsFacet k.dim) more → AllByRecursion (λ d. AllByRecursion (IsFacet d) more) (map (λ (s : VertexStar). s.dim) near)
+all_dims [] k more h p = tt
+all_dims (s ∷ near) k more h p = (let P : ℕ → Type 0 = λ d. AllByRecursion (IsFacet d) more in subst P (sym h.0.dim) p, all_dims near k more h.1 p)
+
+labels_held : (vs a b : List ℕ) → holds vs a ≡ true → holds vs b ≡ true → holds vs (union a b) ≡ true
+labels_held vs a b p q = holds_each vs (union a b) (λ z t. either (has a z) (has b z) (has vs z) (sym (has-union a b z) ∙ t) (λ h. holds_has vs a z p h) (λ h. holds_has vs b z q h))
+  where
+    either : (x y z : Bool) → (x || y) ≡ true → (x ≡ true → z ≡ true) → (y ≡ true → z ≡ true) → z ≡ true
+    either true y z h f g = f refl
+    either false y z h f g = g h
+
+pub can_change : (k : Space) (near : List VertexStar) (f : Flip) (labels : List ℕ) (more : List (List ℕ)) → AreStarsOf k near → HasLabels near f → CanPut k.dim f.a f.b → IsFace labels → labels ≡ union f.a f.b → more ≡ sides f.b f.a → CanChange near labels more
+can_change k near f labels more h held put face el em =
+    let P : List (List ℕ) → Type 0 = λ fs. CanChange near labels fs in
+    subst P (sym em) (record {
+      rising = h.rising;
+      labels_rise = above_tail nat_cmp 0 labels face.rising;
+      held = ap (holds (vertices near)) el ∙ labels_held (vertices near) f.a f.b held.first held.second;
+      few = omega (arith, put.few, length-map f.a (λ x. union f.b (without f.a x)));
+      pure = all_dims near k (sides f.b f.a) h.each put.pure;
+    })
+
+-- ---- what it makes
+
+one_flipped : (k : Space) (a b labels : List ℕ) (s : VertexStar) → Legal k a b → IsStarOf k s → labels ≡ union a b → (if has labels s.vertex then star_changed (sides a b) (sides b a) s else s) ≡ star_flipped a b s
+one_flipped k a b labels s l h e =
+    ap (λ t. cond t (star_changed (sides a b) (sides b a) s) s) (ap (λ xs. has xs s.vertex) e ∙ has-union a b s.vertex)
+    ∙ by_test (has a s.vertex || has b s.vertex)
+  where
+    rows : staying s.rows (sides a b) ≡ beside s.rows a
+    rows = ap (λ fs. staying fs (sides a b)) h.rows ∙ staying_star k.facets a b s.vertex l.link ∙ ap (λ fs. beside fs a) (sym h.rows)
+
+    by_test : (t : Bool) → cond t (star_changed (sides a b) (sides b a) s) s ≡ record s { rows = cond t (star_after s.rows a b s.vertex) s.rows }
+    by_test true = λ i. record s { rows = rising face_cmp (rows i ++ star (sides b a) s.vertex) }
+    by_test false = refl
+
+all_flipped : (k : Space) (near : List VertexStar) (a b labels : List ℕ) → Legal k a b → AllByRecursion (IsStarOf k) near → labels ≡ union a b → stars_changed near labels (sides a b) (sides b a) ≡ stars_flipped near a b
+all_flipped k [] a b labels l h e = refl
+all_flipped k (s ∷ near) a b labels l h e = λ i. one_flipped k a b labels s l h.0 e i ∷ all_flipped k near a b labels l h.1 e i
+
+pub made_flipped : (k : Space) (near last : List VertexStar) (a b labels : List ℕ) (out more : List (List ℕ)) → AreStarsOf k near → why k a b ≡ Ok tt → last ≡ stars_changed near labels out more → labels ≡ union a b → out ≡ sides a b → more ≡ sides b a → last ≡ stars_flipped near a b
+made_flipped k near last a b labels out more h ok e el eo em = e ∙ (λ i. stars_changed near labels (eo i) (em i)) ∙ all_flipped k near a b labels (legal k a b ok) h.each el
+
+-- ---- of which complex they are then
+
+same_vertices : (near : List VertexStar) (a b : List ℕ) → vertices (stars_flipped near a b) ≡ vertices near
+same_vertices [] a b = refl
+same_vertices (s ∷ near) a b = ap (λ vs. s.vertex ∷ vs) (same_vertices near a b)
+
+star_of_flipped : (k : Space) (a b : List ℕ) (s : VertexStar) → IsComplex k → why k a b ≡ Ok tt → IsStarOf k s → IsStarOf (flipped k a b) (star_flipped a b s)
+star_of_flipped k a b s c ok h = record {
+  dim = h.dim;
+  rows = by_tests (has a s.vertex) (has b s.vertex) refl refl;
+}
+  where
+    after : star_after s.rows a b s.vertex ≡ star (flipped k a b).facets s.vertex
+    after = ap (λ fs. star_after fs a b s.vertex) h.rows ∙ sym (star_seen k a b s.vertex)
+
+    by_tests : (p q : Bool) → has a s.vertex ≡ p → has b s.vertex ≡ q → cond (p || q) (star_after s.rows a b s.vertex) s.rows ≡ star (flipped k a b).facets s.vertex
+    by_tests true q e g = after
+    by_tests false true e g = after
+    by_tests false false e g = h.rows ∙ sym (other_star k a b s.vertex c.rising ok e g)
+
+each_of_flipped : (k : Space) (a b : List ℕ) (near : List VertexStar) → IsComplex k → why k a b ≡ Ok tt → AllByRecursion (IsStarOf k) near → AllByRecursion (IsStarOf (flipped k a b)) (stars_flipped near a b)
+each_of_flipped k a b [] c ok h = tt
+each_of_flipped k a b (s ∷ near) c ok h = (star_of_flipped k a b s c ok h.0, each_of_flipped k a b near c ok h.1)
+
+pub stars_of_flipped : (k : Space) (near : List VertexStar) (f : Flip) → OfFaces f → why k f.a f.b ≡ Ok tt → AreStarsOf k near → AreStarsOf (flipped k f.a f.b) (stars_flipped near f.a f.b)
+stars_of_flipped k near f faces ok h = record {
+  complex = complex_flipped k f.a f.b h.complex faces.first faces.second ok;
+  rising = let P : List ℕ → Type 0 = λ vs. IsRising vs in subst P (sym (same_vertices near f.a f.b)) h.rising;
+  each = each_of_flipped k f.a f.b near h.complex ok h.each;
+}
+
+pub stars_of_last : (k : Space) (near last : List VertexStar) (f : Flip) → last ≡ stars_flipped near f.a f.b → OfFaces f → why k f.a f.b ≡ Ok tt → AreStarsOf k near → AreStarsOf (flipped k f.a f.b) last
+stars_of_last k near last f e faces ok h = let P : List VertexStar → Type 0 = λ ss. AreStarsOf (flipped k f.a f.b) ss in subst P (sym e) (stars_of_flipped k near f faces ok h)

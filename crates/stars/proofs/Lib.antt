@@ -1,0 +1,11 @@
+pub mod Finding
+pub mod Views
+pub mod Changing
+pub mod Flipping
+pub mod Replaying
+pub mod Numbering
+pub mod Mapping
+pub mod Adding
+pub mod Placing
+pub mod Gathering
+pub mod Asking

@@ -1,0 +1,6 @@
+use Rattle.std.proofs.Common.{◌≡◌, take}
+use Rattle.stars.specs.Building.{with_rows}
+use Rattle.stars.proofs.build.add_facet.Given as goal
+
+abbrev pub invariant-loop-label : goal.invariant-loop-label
+invariant-loop-label l = l.stars.items ≡ with_rows (take l.label-index l.label-items) l.facet l.fn.stars.items

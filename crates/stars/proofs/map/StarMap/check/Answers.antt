@@ -1,0 +1,19 @@
+use Rattle.std.proofs.Common.{◌≡◌, ◌∙◌}
+use Rattle.stars.specs.StarViews.{all_stars}
+use Rattle.stars.proofs.Mapping.{items_are, shown_stars, shown_labels}
+use Rattle.stars.proofs.map.StarMap.check.Goals as goal
+
+pub local_check-requires-clause-stars : goal.local_check-requires-clause-stars
+local_check-requires-clause-stars c =
+    let items : c.deref.result.now ≡ all_stars c.args.self.now = c.deref.ensures.value ∙ items_are c.args.self.now c.self.inside.dim c.self.inside.stars.items c.self.view_is c.self.invariant.1 in
+    (c.requires.stars.0, shown_stars c.requires.stars.0 c.args.self.now c.deref.result.now items c.requires.stars.1)
+
+pub local_check-requires-clause-held : goal.local_check-requires-clause-held
+local_check-requires-clause-held c =
+    let items : c.deref.result.now ≡ all_stars c.args.self.now = c.deref.ensures.value ∙ items_are c.args.self.now c.self.inside.dim c.self.inside.stars.items c.self.view_is c.self.invariant.1 in
+    shown_labels c.args.self.now c.args.flip.now c.deref.result.now items c.labels-first.ensures.face c.labels-second.ensures.face c.requires.places
+
+pub returns-clause-why : goal.returns-clause-why
+returns-clause-why c = λ k h.
+    let items : c.deref.result.now ≡ all_stars c.args.self.now = c.deref.ensures.value ∙ items_are c.args.self.now c.self.inside.dim c.self.inside.stars.items c.self.view_is c.self.invariant.1 in
+    c.local_check.ensures.why k (shown_stars k c.args.self.now c.deref.result.now items h)

@@ -1,0 +1,10 @@
+use Rattle.std.proofs.Common.{◌≡◌, ◌≤◌, take, length}
+use Rattle.star_laws.specs.Stars.{star}
+use Rattle.stars.proofs.sides.Sides.holding.Given as goal
+
+abbrev pub invariant-loop-set : goal.invariant-loop-set
+invariant-loop-set l = record {
+  made : take l.count l.all ≡ star (take l.set-index l.sets) l.label;
+  few : l.count ≤ l.set-index;
+  long : length l.all ≡ 8;
+}

@@ -1,0 +1,26 @@
+//! Stars: the facets of a complex seen from its vertices, with flips judged and made on the stars of
+//! the flip's own labels.
+//!
+//! The star of a vertex is the list of the facets that contain it. Which rule a bistellar flip
+//! (A, B) breaks is seen in the star of one label of A and the star of one label of B, and a flip
+//! changes no star but those of A and B. So flips need no pass over the whole complex. They are those
+//! of Bjoerner and Lutz, "Simplicial manifolds, bistellar flips and a 16-vertex triangulation of the
+//! Poincare homology 3-sphere" (2000), after Pachner's moves.
+#![tactic(auto)]
+
+mod build;
+mod here;
+mod laws;
+mod map;
+mod over;
+mod rows;
+mod sides;
+mod star;
+#[cfg(test)]
+mod tests;
+
+pub use here::{flip_here, has_labels, local_check};
+pub use laws::flips_seen_here;
+pub use map::StarMap;
+pub use over::Over;
+pub use star::Star;

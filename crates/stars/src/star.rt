@@ -1,0 +1,120 @@
+ghost use Rattle.std.specs.Prelude.{◌≡◌, ◌<◌, ◌≤◌, ◌==◌, [], length, IfOk, OnOk};
+ghost use Rattle.complex_core.specs.Spaces.{over};
+ghost use Rattle.stars.specs.StarViews.{IsStar};
+ghost use Rattle.stars.specs.Building.{with_row};
+
+use crate::over::Over;
+use complex_core::Face;
+use std::alloc::{AllocError, Global};
+use std::marker::Model;
+
+/// The star of a vertex: the facets that contain it, in rising order. It may be empty.
+///
+/// Contracts see the vertex, which is at least 1, the dimension, which is at most 6, and the facets.
+#[derive(Drop)]
+pub struct Star {
+    vertex: u16,
+    dim: u32,
+    rows: Vec<Face>,
+}
+
+impl Model for Star {
+    ghost use Rattle.stars.specs.StarViews.{VertexStar, IsStar};
+
+    ghost Value = { VertexStar };
+
+    ghost view = { λ s. record { vertex = s.vertex; dim = s.dim; rows = s.rows.items } };
+
+    ghost invariant = { λ s. IsStar (record { vertex = s.vertex; dim = s.dim; rows = s.rows.items }) };
+}
+
+impl Star {
+    /// The star of a vertex that no facet contains. It takes no memory.
+    pub fn empty(alloc: Global, vertex: u16, dim: u32) -> Star
+        requires vertex { 0 < vertex }
+        requires low { dim ≤ 6 }
+        ensures { result ≡ record { vertex = vertex; dim = dim; rows = [] } }
+    {
+        Star {
+            vertex,
+            dim,
+            rows: Vec::new(alloc),
+        }
+    }
+
+    /// The vertex, from 1.
+    pub fn vertex(&self) -> u16
+        ensures vertex { result ≡ self.now.vertex }
+        ensures star { IsStar self.now }
+    {
+        self.vertex
+    }
+
+    /// The dimension of the complex: one less than the number of labels of a facet.
+    pub fn dim(&self) -> u32
+        ensures dim { result ≡ self.now.dim }
+        ensures star { IsStar self.now }
+    {
+        self.dim
+    }
+
+    /// Whether no facet contains the vertex.
+    pub fn is_empty(&self) -> bool
+        ensures { result ≡ (length self.now.rows == 0) }
+    {
+        self.rows.is_empty()
+    }
+
+    /// The facets that contain the vertex, rising.
+    pub fn rows(&self) -> &[Face]
+        ensures rows { result.now ≡ self.now.rows }
+        ensures star { IsStar self.now }
+    {
+        &self.rows
+    }
+
+    /// Lends the facets of the star that contain a face, in order. It takes no memory.
+    pub fn over(&self, face: &Face) -> Over<'_>
+        ensures { result ≡ over self.now.rows face.now }
+    {
+        Over::new(&self.rows, face)
+    }
+
+    /// The same star once more.
+    pub fn copy(&self, alloc: Global) -> Result<Star, AllocError>
+        ensures { IfOk result (λ s. s ≡ self.now) }
+    {
+        Ok(Star {
+            vertex: self.vertex,
+            dim: self.dim,
+            rows: Vec::from_slice(alloc, &self.rows)?,
+        })
+    }
+
+    // Puts a facet behind the others.
+    pub(crate) fn push(&mut self, facet: &Face) -> Result<(), AllocError>
+        requires { IsStar (with_row facet.now self.old) }
+        ensures { OnOk result (self.new ≡ with_row facet.now self.old) }
+    {
+        self.rows.push(*facet)?;
+        Ok(())
+    }
+
+    // Takes the facets out of the star, which is left empty.
+    pub(crate) fn lend_rows(&mut self) -> Vec<Face>
+        ensures lent { result.items ≡ self.old.rows }
+        ensures left { self.new ≡ record self.old { rows = [] } }
+        ensures star { IsStar self.old }
+    {
+        let none = Vec::new(*self.rows.allocator());
+        std::mem::replace(&mut self.rows, none)
+    }
+
+    // Puts facets in place of those that it has.
+    pub(crate) fn put_rows(&mut self, rows: Vec<Face>)
+        requires { IsStar (record self.old { rows = rows.items }) }
+        ensures { self.new ≡ record self.old { rows = rows.items } }
+    {
+        self.rows = rows;
+    }
+}
