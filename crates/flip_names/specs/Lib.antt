@@ -1,0 +1,3 @@
+-- Flips under another naming of the labels.
+pub mod Names
+pub mod Laws
