@@ -1,0 +1,10 @@
+pub mod Keys
+pub mod Entries
+pub mod Refreshing
+pub mod Flipping
+pub mod Joining
+pub mod Places
+pub mod Partners
+pub mod Looking
+pub mod Making
+pub mod Descending

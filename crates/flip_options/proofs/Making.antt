@@ -1,0 +1,117 @@
+-- The options of a complex, made from nothing and after a flip.
+use Rattle.std.proofs.Common.{◌≡◌, ℕ, ◌+◌, ◌-◌, ◌<◌, ◌≤◌, true, nat_eq, List, [], ◌∷◌, length, Option, Some, None, Ok, sym, ◌∙◌, ap, refl, subst, arith, ◌⊎◌, inl, inr}
+use Rattle.std.specs.Prelude.{IsSome, MatchOption}
+use Rattle.std.specs.List.{list_all, slice_get}
+use Rattle.std.specs.Map.{lookup}
+use Rattle.std.specs.Ordering.{nat_cmp}
+use Rattle.face_counts.proofs.Parts.{pure_at}
+use Rattle.std.specs.BTreeMap.{get, is_at, IsOrdered}
+use Rattle.std.proofs.lemmas.Option.{none-some, same_Some}
+use Rattle.complex_core.specs.Labels.{has, union}
+use Rattle.complex_core.specs.Spaces.{Space, is_facet}
+use Rattle.complex_core.proofs.Sets.{above_tail}
+use Rattle.complex_core.proofs.Laws.{length-union_apart, or_left, nat_eq_same}
+use Rattle.flip_rules.specs.Flips.{OfFaces, why, flipped, Legal}
+use Rattle.flip_rules.specs.declared.flip.Flip.{Flip}
+use Rattle.flip_rules.proofs.Links.{side, side_holds}
+use Rattle.flip_rules.proofs.Legal.{legal}
+use Rattle.pseudo_test.proofs.Subsets.{clash, not_true}
+use Rattle.stars.specs.StarViews.{StarList, IsStarListOf, places_in}
+use Rattle.descent_laws.specs.Descents.{IsReducing, IsMinimal, IsBest, AreCandidates}
+use Rattle.descent_laws.proofs.Reducing.{two_at_least}
+use Rattle.descent_laws.proofs.Candidates.{first_is_best, none_is_minimal}
+use Rattle.flip_options.specs.Tables.{Table, key_cmp, key_of, flip_from, flips_of, is_sized, Refreshed, IsPart, MeetsChanged}
+use Rattle.flip_options.specs.OptionViews.{AreOptions, IsStep}
+use Rattle.flip_options.proofs.Entries.{right_from, candidates_made}
+use Rattle.flip_options.proofs.Refreshing.{refreshed_then}
+use Rattle.flip_options.proofs.Flipping.{linked, flip_right}
+use Rattle.flip_options.proofs.Looking.{PlacedBelow}
+use Rattle.flip_options.proofs.Places.{place_high, place_low}
+
+some_first : (f : List ℕ) → 0 < length f → (p : ℕ) × (slice_get f 0 ≡ Some p) × (has f p ≡ true)
+some_first [] n = absurd (omega (arith, n))
+some_first (p ∷ rest) n = (p, refl, or_left (nat_eq p p) (has rest p) (nat_eq_same p))
+
+-- the A of a candidate is a part of some facet
+placed : (k : Space) (s : StarList) (a b : List ℕ) → IsStarListOf k s → IsReducing k (flip_from a b) → PlacedBelow (places_in s) k a
+placed k s a b h r =
+    let l : Legal k a b = legal k a b r.legal in
+    let y : (y : ℕ) × (slice_get b 0 ≡ Some y) × (has b y ≡ true) = some_first b (omega (arith, two_at_least k (flip_from a b) r)) in
+    let there : is_facet k.facets (side a b y.0) ≡ true = (linked k k a b refl r).there y.0 y.2 in
+    let x : (x : ℕ) × (slice_get (side a b y.0) 0 ≡ Some x) × (has (side a b y.0) x ≡ true) = some_first (side a b y.0) (omega (arith, (pure_at k.dim k.facets (side a b y.0) h.complex.pure there).size)) in
+    let low : 0 < x.0 = place_low k (side a b y.0) x.0 h.complex there x.2 in
+    let e : x.0 ≡ x.0 - 1 + 1 = omega (arith, low) in
+    record {
+      at = x.0 - 1;
+      high = omega (arith, low, place_high k s (side a b y.0) x.0 h there x.2);
+      is = record {
+        facet = side a b y.0;
+        there = there;
+        first = x.1 ∙ ap Some e;
+        is = record { face = r.faces.first; part = side_holds a b y.0; some = omega (arith, l.shape.first); few = omega (arith, l.shape.sizes, r.high) };
+      };
+    }
+
+none_at : (m : Table) (q : ℕ × List ℕ) → m.entries ≡ [] → get key_cmp m q ≡ None
+none_at m q e = ap (lookup (is_at (key_cmp q))) e
+
+pub of_made : (s : StarList) (m n : Table) (place : ℕ) → m.entries ≡ [] → Refreshed s m n (λ k a. PlacedBelow place k a) → places_in s ≤ place → IsOrdered key_cmp n → (k : Space) → IsStarListOf k s → AreOptions k (Some (flips_of n))
+of_made s m n place e r l o k h = record {
+  flips = flips_of n;
+  kept = refl;
+  all = candidates_made k n o (r.sized (ap (λ es. list_all (λ q. nat_eq q.0.0 (length q.0.1)) es) e)) (λ a. elim (r.each k h a) [
+    | inr right ↦ right
+    | inl same ↦ record {
+      sound = λ b g. absurd (none-some b (sym (same ∙ none_at m (key_of a) e) ∙ g));
+      complete = λ b g. (r.done k h a (wider (placed k s a b h g))).complete b g;
+    }
+  ]);
+}
+  where
+    wider : {a : List ℕ} → PlacedBelow (places_in s) k a → PlacedBelow place k a
+    wider p = record { at = p.at; high = omega (arith, p.high, l); is = p.is }
+
+-- ---- after a flip
+
+pub step_fits : (k : Space) (o : Option (List Flip)) (s : StarList) (f : Flip) → IsStep k o s f → length (union f.a f.b) ≤ 8
+step_fits k o s f h =
+    let l : Legal k f.a f.b = legal k f.a f.b h.legal in
+    omega (arith, length-union_apart f.a f.b (above_tail nat_cmp 0 f.b h.faces.second.rising) (λ z t. not_true (has f.a z) (λ u. clash {P = ⊥} (has f.b z) t (l.shape.apart z u))), l.shape.sizes, h.complex.low)
+
+candidates_of : (k : Space) (o : Option (List Flip)) (flips : List Flip) → AreOptions k o → o ≡ Some flips → AreCandidates k flips
+candidates_of k o flips h e = let P : List Flip → Type 0 = λ fs. AreCandidates k fs in subst P (same_Some h.flips flips (sym h.kept ∙ e)) h.all
+
+pub after_made : (s : StarList) (f : Flip) (o : Option (List Flip)) (was mid now : Table) (all : List ℕ) → o ≡ Some (flips_of was) → is_sized was ≡ true → all ≡ union f.a f.b → Refreshed s was mid (λ k a. IsPart k all a) → Refreshed s mid now (λ k a. MeetsChanged k all f.a f.b a) → IsOrdered key_cmp now → (k : Space) → IsStep k o s f → AreOptions (flipped k f.a f.b) (Some (flips_of now))
+after_made s f o was mid now all e sized is p q order k h =
+    let c : AreCandidates k (flips_of was) = candidates_of k o (flips_of was) h.had e in
+    let r : Refreshed s was now (λ l a. IsPart l all a ⊎ MeetsChanged l all f.a f.b a) = refreshed_then s was mid now (λ l a. IsPart l all a) (λ l a. MeetsChanged l all f.a f.b a) (λ l a. IsPart l all a ⊎ MeetsChanged l all f.a f.b a) p q (λ l i a t. t) in
+    record {
+      flips = flips_of now;
+      kept = refl;
+      all = candidates_made (flipped k f.a f.b) now order (r.sized sized) (λ a.
+          let P : List ℕ → Type 0 = λ w. IsPart (flipped k f.a f.b) w a in
+          let Q : List ℕ → Type 0 = λ w. MeetsChanged (flipped k f.a f.b) w f.a f.b a in
+          flip_right k f a was now h.complex h.faces h.legal (right_from k was sized c a) (r.each (flipped k f.a f.b) h.after a)
+          (λ t. r.done (flipped k f.a f.b) h.after a (inl (subst P (sym is) t)))
+          (λ t. r.done (flipped k f.a f.b) h.after a (inr (subst Q (sym is) t))));
+    }
+
+-- ---- the best
+
+-- what the first of the candidates is
+pub best_of : (k : Space) (flips : List Flip) (r : Option Flip) → AreCandidates k flips → r ≡ slice_get flips 0 → MatchOption r (IsMinimal k) (IsBest k)
+best_of k [] r c e = let P : Option Flip → Type 0 = λ q. MatchOption q (IsMinimal k) (IsBest k) in subst P (sym e) (none_is_minimal k c)
+best_of k (f ∷ fs) r c e = let P : Option Flip → Type 0 = λ q. MatchOption q (IsMinimal k) (IsBest k) in subst P (sym e) (first_is_best k f fs c)
+
+pub first_best : (k : Space) (m : Table) (o : Option (List Flip)) (r : Option Flip) → o ≡ Some (flips_of m) → r ≡ slice_get (flips_of m) 0 → AreOptions k o → MatchOption r (IsMinimal k) (IsBest k)
+first_best k m o r e is h = best_of k (flips_of m) r (candidates_of k o (flips_of m) h e) is
+
+-- ---- a step
+
+pub kept_some : (k : Space) (o : Option (List Flip)) → AreOptions k o → IsSome o
+kept_some k o h = let P : Option (List Flip) → Type 0 = λ p. IsSome p in subst P (sym h.kept) refl
+
+pub step_kept : (k : Space) (s t : StarList) (o p : Option (List Flip)) (f : Flip) (l : Space) → IsStarListOf k s → AreOptions k o → OfFaces f → why k f.a f.b ≡ Ok tt → IsStarListOf (flipped k f.a f.b) t → ((m : Space) → IsStep m o t f → AreOptions (flipped m f.a f.b) p) → l ≡ flipped k f.a f.b → IsStarListOf l t × AreOptions l p
+step_kept k s t o p f l h a faces e u v is =
+    let P : Space → Type 0 = λ m. IsStarListOf m t × AreOptions m p in
+    subst P (sym is) (u, v k (record { complex = h.complex; had = a; faces = faces; legal = e; after = u }))

@@ -1,0 +1,90 @@
+ghost use Rattle.std.specs.Prelude.{◌≡◌, ◌∷◌, None, IsSome, IfSome, IfOk, OnOk, OnErr, MatchOption, slice_get};
+ghost use Rattle.complex_core.specs.Spaces.{Space};
+ghost use Rattle.flip_rules.specs.Flips.{flipped};
+ghost use Rattle.stars.specs.StarViews.{IsStarListOf};
+ghost use Rattle.descent_laws.specs.Descents.{IsMinimal, IsBest};
+ghost use Rattle.flip_options.specs.OptionViews.{AreOptions, IsStep};
+
+use crate::refresh::{refresh_links, refresh_parts, refresh_star};
+use crate::table::{Table, first_flip};
+use flip_rules::Flip;
+use stars::StarMap;
+use std::alloc::{AllocError, Global};
+use std::collections::BTreeMap;
+use std::marker::Model;
+
+/// The candidates for a descent of a complex: all legal flips of an index above d/2.
+///
+/// Contracts see their list, best first, or nothing once they are given up for want of memory.
+#[derive(Drop)]
+pub struct Options {
+    alloc: Global,
+    table: Option<Table>,
+}
+
+impl Model for Options {
+    ghost use Rattle.std.specs.Prelude.{◌≡◌, true, List, Option};
+    ghost use Rattle.flip_rules.specs.declared.flip.Flip.{Flip};
+    ghost use Rattle.flip_options.specs.OptionViews.{found_flips, has_sizes};
+
+    ghost Value = { Option (List Flip) };
+
+    ghost view = { λ o. found_flips o.table };
+
+    ghost invariant = { λ o. has_sizes o.table ≡ true };
+}
+
+impl Options {
+    /// The options of the complex whose stars these are, in one pass over its facets.
+    pub fn of(alloc: Global, stars: &StarMap) -> Result<Options, AllocError>
+        requires { (k : Space) × IsStarListOf k stars.now }
+        ensures { (k : Space) → IsStarListOf k stars.now → IfOk result (AreOptions k) }
+    {
+        let mut table = BTreeMap::new(alloc);
+        for place in 0..stars.places() {
+            refresh_star(alloc, &mut table, stars, place + 1)?;
+        }
+        let _ordered = table.len();
+        Ok(Options {
+            alloc,
+            table: Some(table),
+        })
+    }
+
+    /// The options after a legal flip: those that [`Options::of`] gives of the stars after it.
+    ///
+    /// It costs the stars of the flip's labels, and not the size of the complex. Without memory the
+    /// options are given up.
+    pub fn after(&mut self, stars: &StarMap, flip: &Flip) -> Result<(), AllocError>
+        requires { (k : Space) × IsStep k self.old stars.now flip.now }
+        ensures ok { (k : Space) → IsStep k self.old stars.now flip.now →
+            OnOk result (AreOptions (flipped k flip.now.a flip.now.b) self.new) }
+        ensures err { OnErr result (self.new ≡ None) }
+    {
+        let alloc = self.alloc;
+        let Some(mut table) = self.table.take() else {
+            unreachable!()
+        };
+        let Some(all) = flip.a.union(&flip.b) else {
+            unreachable!()
+        };
+        refresh_parts(alloc, &mut table, stars, &all)?;
+        refresh_links(alloc, &mut table, stars, flip, &all)?;
+        let _ordered = table.len();
+        self.table = Some(table);
+        Ok(())
+    }
+
+    /// The best option: the flip with the greatest index, and among these the one with the least A.
+    /// `None` exactly where there is none. It takes no memory.
+    pub fn best(&self) -> Option<Flip>
+        requires { IsSome self.now }
+        ensures first { IfSome self.now (λ flips. result ≡ slice_get flips 0) }
+        ensures best { (k : Space) → AreOptions k self.now → MatchOption result (IsMinimal k) (IsBest k) }
+    {
+        let Some(table) = &self.table else {
+            unreachable!()
+        };
+        first_flip(table)
+    }
+}
