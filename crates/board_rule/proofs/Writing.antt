@@ -1,0 +1,171 @@
+-- Part 1 of the rule, after each change: the journal is one legal history.
+use Rattle.std.proofs.Common.{◌≡◌, ℕ, ◌+◌, ◌-◌, ◌<◌, ◌≤◌, ◌^◌, Bool, true, false, cond, nat_eq, ◌||◌, ◌&&◌, List, [], ◌∷◌, ◌++◌, map, length, get_or, replicate, Some, inl, inr, sym, refl, ap, ◌∙◌, subst, arith, eq-eqb}
+use Rattle.std.specs.List.{AllByRecursion, flat_map}
+use Rattle.std.specs.Ordering.{nat_cmp}
+use Rattle.std.proofs.Math.ListN.{get_or-eq_default}
+use Rattle.std.proofs.lemmas.Bool.{cases_lt}
+use Rattle.std.proofs.lemmas.List.{append-nil, length-replicate, get_or-replicate}
+use Rattle.std.proofs.lemmas.List.Elements.{filter-append}
+use Rattle.complex_core.specs.Labels.{has, holds}
+use Rattle.complex_core.specs.Maps.{used}
+use Rattle.complex_core.specs.Spaces.{Space, IsComplex, is_held}
+use Rattle.complex_core.proofs.Faces.{equal_cmp}
+use Rattle.complex_core.proofs.Laws.{nat_eq_is, nat_eq_same, or_left, or_right}
+use Rattle.complex_core.proofs.Runs.{held_alike}
+use Rattle.complex_core.proofs.Sets.{any-rising}
+use Rattle.complex_core.proofs.Sorting.{each_append}
+use Rattle.flip_rules.specs.Flips.{OfFaces, replay}
+use Rattle.flip_rules.specs.Entries.{JournalEntry}
+use Rattle.flip_rules.specs.Journals.{flat, mine}
+use Rattle.flip_rules.specs.declared.flip.Flip.{Flip}
+use Rattle.flip_rules.proofs.Replays.{replay-append, complex_replayed}
+use Rattle.star_laws.specs.Stars.{flips_touch}
+use Rattle.star_laws.proofs.ReplayStars.{others_replay}
+use Rattle.flip_world.specs.Cores.{complex_of, pending_of, of_worker}
+use Rattle.flip_world.specs.Serials.{Serial, numbers_from}
+use Rattle.flip_world.proofs.Replays.{some_replay, flat_push}
+use Rattle.stars.specs.StarViews.{UsesUpTo}
+use Rattle.board_rule.specs.Rule.{core_of, IsEntry, Written}
+use Rattle.board_rule.specs.Ends.{Opens}
+use Rattle.board_rule.specs.declared.about.About.{About}
+use Rattle.board_rule.specs.declared.data.Slot.{Slot}
+use Rattle.board_rule.proofs.Items.{off}
+
+-- ---- the core of a board
+
+-- nothing is pending
+pub nothing_pending : (workers n : ℕ) → get_or {A = List Flip} (replicate workers []) n [] ≡ []
+nothing_pending workers n = elim (cases_lt n workers) [
+  | inl l ↦ get_or-replicate workers n [] [] l
+  | inr l ↦ get_or-eq_default (replicate workers []) [] (omega (arith, length-replicate {A = List Flip} workers [], l))
+]
+
+abbrev pub Numbered : List JournalEntry → Type 0
+Numbered journal = (worker : ℕ) → map (λ (e : JournalEntry). e.seq) (of_worker journal worker) ≡ numbers_from 0 (of_worker journal worker)
+
+-- so it is serial where the journal replays and is numbered, whoever owns the places
+pub serial_of : (about : About) (words : List ℕ) (journal : List JournalEntry) (now : Space) → replay about.start.value (flat journal) ≡ Some now → Numbered journal → Serial (core_of about words journal)
+serial_of about words journal now replays numbered = record {
+  replays = some_replay about.start.value now (flat journal) replays;
+  pending = λ worker w. let k : Space = complex_of (core_of about words journal) in some_replay k k (pending_of (core_of about words journal) worker) (ap (replay k) (nothing_pending about.workers (worker - 1)));
+  owned = λ worker place w t. off (ap (flips_touch place) (sym (nothing_pending about.workers (worker - 1))) ∙ t);
+  numbered = numbered;
+}
+
+-- ---- a step that writes no entry
+
+wider_entries : (round seats seats' : ℕ) (journal : List JournalEntry) → seats ≤ seats' → AllByRecursion (IsEntry round seats) journal → AllByRecursion (IsEntry round seats') journal
+wider_entries round seats seats' [] more h = tt
+wider_entries round seats seats' (e ∷ es) more h = let one = h.0 in let high = one.high in (record { round_is = one.round_is; low = one.low; high = omega arith; some = one.some; few = one.few }, wider_entries round seats seats' es more h.1)
+
+pub written_as : (about : About) (words words' : List ℕ) (seats seats' : ℕ) (journal : List JournalEntry) (now : Space) → seats ≤ seats' → Written about words seats journal now → Written about words' seats' journal now
+written_as about words words' seats seats' journal now more w = record {
+  serial = serial_of about words' journal now w.replays w.serial.numbered;
+  replays = w.replays;
+  complex = w.complex;
+  within = w.within;
+  entries = wider_entries about.round seats seats' journal more w.entries;
+  short = w.short;
+}
+
+-- ---- no entry yet
+
+pub written_first : (about : About) (words : List ℕ) (slots : List Slot) (seats : ℕ) → Opens about words slots → Written about words seats [] about.start.value
+written_first about words slots seats o = record {
+  serial = serial_of about words [] about.start.value refl (λ worker. refl);
+  replays = refl;
+  complex = o.complex;
+  within = o.within;
+  entries = tt;
+  short = omega arith;
+}
+
+-- ---- which labels are used
+
+each_has : (P : ℕ → Type 0) (xs : List ℕ) → ((x : ℕ) → has xs x ≡ true → P x) → AllByRecursion P xs
+each_has P [] h = tt
+each_has P (x ∷ xs) h = (h x (or_left (nat_eq x x) (has xs x) (nat_eq_same x)), each_has P xs (λ y t. h y (or_right (nat_eq x y) (has xs y) t)))
+
+has_each : (P : ℕ → Type 0) (xs : List ℕ) (x : ℕ) → AllByRecursion P xs → has xs x ≡ true → P x
+has_each P [] x a t = off t
+has_each P (y ∷ ys) x a t = elim (nat_eq y x) as (λ b. nat_eq y x ≡ b → (b || has ys x) ≡ true → P x) [
+  | true ↦ λ e _. subst P (nat_eq_is y x e) a.0
+  | false ↦ λ _ u. has_each P ys x a.1 u
+] refl t
+
+has-append : (xs ys : List ℕ) (x : ℕ) → has (xs ++ ys) x ≡ (has xs x || has ys x)
+has-append [] ys x = refl
+has-append (y ∷ xs) ys x = ap (λ b. nat_eq y x || b) (has-append xs ys x) ∙ regroup (nat_eq y x) (has xs x) (has ys x)
+  where
+    regroup : (a b c : Bool) → (a || (b || c)) ≡ ((a || b) || c)
+    regroup true b c = refl
+    regroup false b c = refl
+
+-- a label is used where some facet holds it
+has_used : (fs : List (List ℕ)) (x : ℕ) → has (used fs) x ≡ is_held fs (x ∷ [])
+has_used fs x = any-rising nat_cmp equal_cmp (λ y. nat_eq y x) _ ∙ flat fs
+  where
+    and_true : (b : Bool) → b ≡ (b && true)
+    and_true true = refl
+    and_true false = refl
+
+    flat : (gs : List (List ℕ)) → has (flat_map (λ f. f) gs) x ≡ is_held gs (x ∷ [])
+    flat [] = refl
+    flat (g ∷ gs) = has-append g (flat_map (λ f. f) gs) x ∙ (ap (λ b. b || has (flat_map (λ f. f) gs) x) (and_true (has g x)) ∙ ap (λ b. holds g (x ∷ []) || b) (flat gs))
+
+-- flips whose labels are at most n lead to a complex that uses no others
+pub uses_after : (k m : Space) (flips : List Flip) (n : ℕ) → IsComplex k → replay k flips ≡ Some m → ((p : ℕ) → flips_touch p flips ≡ true → p ≤ n) → UsesUpTo k n → UsesUpTo m n
+uses_after k m flips n c e touched w = each_has (λ x. x ≤ n) (used m.facets) (λ x t. by x t (flips_touch x flips) refl)
+  where
+    by : (x : ℕ) → has (used m.facets) x ≡ true → (b : Bool) → flips_touch x flips ≡ b → x ≤ n
+    by x t true is = touched x is
+    by x t false is = has_each (λ y. y ≤ n) (used k.facets) x w
+        (has_used k.facets x ∙ (held_alike k.facets m.facets (x ∷ []) (sym (others_replay k m flips x c.rising e is)) ∙ (sym (has_used m.facets x) ∙ t)))
+
+-- ---- a commit
+
+numbers_push : (n : ℕ) (es : List JournalEntry) (e : JournalEntry) → e.seq ≡ n + length es → map (λ (d : JournalEntry). d.seq) es ≡ numbers_from n es → map (λ (d : JournalEntry). d.seq) (es ++ e ∷ []) ≡ numbers_from n (es ++ e ∷ [])
+numbers_push n [] e seq h = let g : e.seq ≡ n = omega (arith, seq) in λ i. g i ∷ []
+numbers_push n (d ∷ ds) e seq h = head_tail d.seq n _ _ (heads d.seq n _ _ h) (numbers_push (n + 1) ds e (omega (arith, seq)) (tails d.seq n _ _ h))
+  where
+    heads : (x y : ℕ) (xs ys : List ℕ) → x ∷ xs ≡ y ∷ ys → x ≡ y
+    heads x y xs ys e = cc
+
+    tails : (x y : ℕ) (xs ys : List ℕ) → x ∷ xs ≡ y ∷ ys → xs ≡ ys
+    tails x y xs ys e = cc
+
+    head_tail : (x y : ℕ) (xs ys : List ℕ) → x ≡ y → xs ≡ ys → x ∷ xs ≡ y ∷ ys
+    head_tail x y xs ys e f = cc
+
+-- the worker's entries with one more
+pub numbered_push : (journal : List JournalEntry) (e : JournalEntry) → e.seq ≡ length (of_worker journal e.worker) → Numbered journal → Numbered (journal ++ e ∷ [])
+numbered_push journal e seq all other =
+    let P : List JournalEntry → Type 0 = λ es. map (λ (d : JournalEntry). d.seq) es ≡ numbers_from 0 es in
+    subst P (sym (filter-append (λ (d : JournalEntry). nat_eq d.worker other) journal (e ∷ [])))
+    (elim (nat_eq e.worker other) as (λ b. nat_eq e.worker other ≡ b → P (of_worker journal other ++ cond b (e ∷ []) [])) [
+      | true ↦ λ y. numbers_push 0 (of_worker journal other) e (let n : e.seq ≡ length (of_worker journal other) = seq ∙ ap (λ w. length (of_worker journal w)) (nat_eq_is e.worker other y) in omega (arith, n)) (all other)
+      | false ↦ λ _. subst P (sym (append-nil (of_worker journal other))) (all other)
+    ] refl)
+
+-- all entries are of the board's round
+pub mine_of_worker : (round seats : ℕ) (journal : List JournalEntry) (w : ℕ) → AllByRecursion (IsEntry round seats) journal → mine journal round w ≡ of_worker journal w
+mine_of_worker round seats [] w h = refl
+mine_of_worker round seats (e ∷ es) w h =
+    let rest : mine es round w ≡ of_worker es w = mine_of_worker round seats es w h.1 in
+    ap (λ (b : Bool). cond (b && nat_eq e.worker w) (e ∷ mine es round w) (mine es round w)) (eq-eqb e.round round h.0.round_is)
+    ∙ ap (λ (l : List JournalEntry). cond (nat_eq e.worker w) (e ∷ l) l) rest
+
+-- an entry is written of which the flips are legal now and stand on places
+pub written_more : (about : About) (words words' : List ℕ) (seats : ℕ) (journal : List JournalEntry) (e : JournalEntry) (now end : Space) → Written about words seats journal now → IsEntry about.round seats e → e.seq ≡ length (of_worker journal e.worker)
+    → AllByRecursion OfFaces e.flips → replay now e.flips ≡ Some end → ((p : ℕ) → flips_touch p e.flips ≡ true → p ≤ about.places) → length (journal ++ e ∷ []) < 2 ^ 64
+    → Written about words' seats (journal ++ e ∷ []) end
+written_more about words words' seats journal e now end w entry seq faces legal places short =
+    let replays : replay about.start.value (flat (journal ++ e ∷ [])) ≡ Some end = ap (replay about.start.value) (flat_push journal e) ∙ (replay-append about.start.value now (flat journal) e.flips w.replays ∙ legal) in
+    record {
+      serial = serial_of about words' (journal ++ e ∷ []) end replays (numbered_push journal e seq w.serial.numbered);
+      replays = replays;
+      complex = complex_replayed now end e.flips w.complex faces legal;
+      within = uses_after now end e.flips about.places w.complex legal places w.within;
+      entries = each_append (IsEntry about.round seats) journal (e ∷ []) w.entries (entry, tt);
+      short = short;
+    }

@@ -1,0 +1,85 @@
+ghost use Rattle.std.specs.Prelude.{◌≡◌, ◌+◌, ◌<◌, ◌^◌, ◌++◌, ◌∷◌, [], length, IfOk, OnOk, OnErr};
+
+use flip_rules::{Entry, Journal};
+use stars::Star;
+use std::alloc::{AllocError, Global};
+use std::marker::Model;
+
+/// What lies at a place from 1: its star, and how many entries of the journal touch the place.
+#[derive(Drop)]
+pub struct Home {
+    /// The star of the place.
+    pub star: Star,
+    /// The number of entries that touch it.
+    pub version: u64,
+}
+
+/// The journal of a board that is open, with room for entries to come.
+///
+/// Contracts see the list of the entries, and for how many more there is room.
+#[derive(Drop)]
+pub struct OpenJournal {
+    entries: Vec<Entry>,
+}
+
+impl Model for OpenJournal {
+    ghost use Rattle.std.specs.Prelude.{◌-◌, vec_len, vec_capacity};
+    ghost use Rattle.board_rule.specs.Books.{Book};
+
+    ghost Value = { Book };
+
+    ghost view = { λ j. record { entries = j.entries.items; room = vec_capacity j.entries - vec_len j.entries } };
+}
+
+impl OpenJournal {
+    /// A journal without entries.
+    pub fn new(alloc: Global) -> OpenJournal
+        ensures { result.entries ≡ [] }
+    {
+        OpenJournal {
+            entries: Vec::new(alloc),
+        }
+    }
+
+    /// Makes room for one entry at least, and leaves the entries as they are.
+    pub fn reserve(&mut self) -> Result<(), AllocError>
+        ensures entries { self.new.entries ≡ self.old.entries }
+        ensures room { OnOk result (0 < self.new.room) }
+    {
+        self.entries.reserve(1)
+    }
+
+    /// Writes an entry behind the others, where there is room. It takes no memory.
+    pub fn push_reserved(&mut self, entry: Entry)
+        requires room { 0 < self.old.room }
+        ensures entries { self.new.entries ≡ self.old.entries ++ entry ∷ [] }
+
+        // Their number fits a word.
+        ensures short { length self.new.entries < 2 ^ 64 }
+    {
+        self.entries.push_reserved(entry);
+    }
+
+    /// The same entries as a journal that is closed.
+    pub fn into_journal(self, alloc: Global) -> Result<Journal, AllocError>
+        ensures { IfOk result (λ journal. journal ≡ self.entries) }
+    {
+        let mut journal = Journal::new(alloc);
+        for entry in self.entries {
+            journal.push(entry)?;
+        }
+        Ok(journal)
+    }
+}
+
+/// What a slot of the table holds: at place 0 the journal, at each other place its home, and where
+/// a pass took either out of its slot, nothing.
+#[derive(Drop)]
+pub enum Slot {
+    /// The journal.
+    Journal(OpenJournal),
+    /// A star with its version.
+    Home(Home),
+    /// A pass took out what was there.
+    Out,
+}
