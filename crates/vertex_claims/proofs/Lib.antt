@@ -1,0 +1,6 @@
+pub mod Turns
+pub mod Seats
+pub mod Books
+pub mod Flags
+pub mod Ends
+pub mod Pairs
