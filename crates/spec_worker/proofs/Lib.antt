@@ -1,0 +1,4 @@
+pub mod LentStars
+pub mod MadeFlips
+pub mod GivenUp
+pub mod Claims

@@ -1,0 +1,2 @@
+-- What a worker holds of a board, and what it remembers of it.
+pub mod Holding
