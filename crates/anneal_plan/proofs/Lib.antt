@@ -1,0 +1,13 @@
+pub mod WordLists
+pub mod Gaps
+pub mod Steps
+pub mod Founds
+pub mod Parting
+pub mod FacesLeft
+pub mod AllFaces
+pub mod Gathered
+pub mod Choosing
+pub mod Trying
+pub mod Fitting
+pub mod Proposing
+pub mod Turning
