@@ -1,0 +1,39 @@
+-- Flips one after another.
+use Rattle.std.proofs.Common.{◌≡◌, ℕ, ◌+◌, ◌<◌, ◌≤◌, zero, suc, take, drop, get_or, List, [], ◌∷◌, ◌++◌, length, Some, Ok, Err, sym, ◌∙◌, ap, refl, arith}
+use Rattle.complex_core.specs.Spaces.{Space}
+use Rattle.flip_rules.specs.Flips.{why, flipped, replay}
+use Rattle.flip_rules.specs.Certificates.{IsFirstIllegal}
+use Rattle.flip_rules.specs.declared.flip.Flip.{Flip}
+use Rattle.flip_rules.specs.declared.flip.Illegal.{Illegal}
+use Rattle.flip_rules.proofs.Replays.{replay_then}
+use Rattle.cert_replay.proofs.RowSteps.{taken_more, taken_all}
+
+pub split_there : {X : Type 0} (xs : List X) (i : ℕ) (x : X) → i < length xs → x ≡ get_or xs i x → xs ≡ take i xs ++ x ∷ drop (i + 1) xs
+split_there [] i x h e = absurd (omega (arith, h))
+split_there (y ∷ ys) zero x h e = ap (λ z. z ∷ ys) (sym e)
+split_there (y ∷ ys) (suc i) x h e = let n : suc i + 1 ≡ suc (i + 1) = omega arith in rw n (ap (λ zs. y ∷ zs) (split_there ys i x (omega arith) e))
+
+taken_length : {X : Type 0} (xs : List X) (i : ℕ) → i < length xs → length (take i xs) ≡ i
+taken_length [] i h = absurd (omega (arith, h))
+taken_length (y ∷ ys) zero h = refl
+taken_length (y ∷ ys) (suc i) h = let e : length (take i ys) ≡ i = taken_length ys i (omega arith) in omega (arith, e)
+
+-- one more legal flip
+pub replay_step : (k mid new : Space) (flips : List Flip) (place : ℕ) (f : Flip) → replay k (take place flips) ≡ Some mid → place < length flips → f ≡ get_or flips place f → why mid f.a f.b ≡ Ok tt → new ≡ flipped mid f.a f.b → replay k (take (place + 1) flips) ≡ Some new
+replay_step k mid new flips place f e n t w c = ap (replay k) (taken_more flips place f n t) ∙ replay_then k mid (take place flips) f e w ∙ ap (λ l. Some l) (sym c)
+
+-- the first one that isn't
+pub first_illegal : (k mid : Space) (flips : List Flip) (place : ℕ) (f : Flip) (reason : Illegal) → replay k (take place flips) ≡ Some mid → place < length flips → f ≡ get_or flips place f → why mid f.a f.b ≡ Err reason → IsFirstIllegal k flips (place + 1) reason
+first_illegal k mid flips place f reason e n t w = record {
+  before = take place flips;
+  flip = f;
+  after = drop (place + 1) flips;
+  are = split_there flips place f n t;
+  counted = let l : length (take place flips) ≡ place = taken_length flips place n in omega (arith, l);
+  there = mid;
+  replays = e;
+  breaks = w;
+}
+
+pub replay_whole : (k end : Space) (flips : List Flip) (place : ℕ) → replay k (take place flips) ≡ Some end → length flips ≤ place → replay k flips ≡ Some end
+replay_whole k end flips place e n = ap (replay k) (sym (taken_all flips place n)) ∙ e

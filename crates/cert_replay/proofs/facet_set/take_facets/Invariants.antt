@@ -1,0 +1,6 @@
+use Rattle.std.proofs.Common.{take}
+use Rattle.cert_replay.specs.Rows.{Takes}
+use Rattle.cert_replay.proofs.facet_set.take_facets.Given as goal
+
+abbrev pub invariant-loop-facet : goal.invariant-loop-facet
+invariant-loop-facet l = Takes (take l.facet-index l.facets) l.fn.rows l.rows

@@ -1,0 +1,4 @@
+-- What certificates come to.
+pub mod Rows
+pub mod Outcomes
+pub mod Answers
