@@ -1,83 +1,58 @@
 -- Words and input determine the answer, and what a decided answer tells.
-use Rattle.std.proofs.Common.{◌≡◌, true, false, ℕ, ◌≤◌, Bool, ◌⊎◌, if◌then◌else◌, Option, Some, None, List, length, inl, inr, Result, Ok, Err, sym, ◌∙◌, ap, refl, subst, arith}
-use Rattle.std.specs.Prelude.{IfSome, ◌↔◌}
+use Rattle.std.proofs.Common.{◌≡◌, true, false, ℕ, ◌≤◌, Bool, ◌⊎◌, if◌then◌else◌, Option, Some, None, List, ◌++◌, append-nil, length, inl, inr, Result, Ok, Err, sym, ◌∙◌, ap, refl, subst, arith}
+use Rattle.std.specs.Prelude.{IfOk, IfSome, ◌↔◌}
 use Rattle.std.specs.Io.KnownBytes.{Appends}
-use Rattle.flip_io.specs.Outcomes.{AppendsPrefix}
+use Rattle.flip_io.specs.Outcomes.{AppendsPrefix, TakesAll}
 use Rattle.complex_core.specs.Spaces.{Space}
-use Rattle.flip_rules.specs.Boundaries.{IsBoundary}
-use Rattle.flip_rules.specs.Certificates.{SphereCert}
-use Rattle.flip_rules.specs.declared.flip.Flip.{Flip}
-use Rattle.flip_rules.specs.declared.flip.Illegal.{Illegal}
+use Rattle.cert_text.specs.Claims.{Claim}
 use Rattle.flip_world.specs.Cores.{Core}
 use Rattle.flip_world.specs.Runs.{Turn}
+use Rattle.anneal_plan.specs.Numbers.{Numbers}
 use Rattle.job_words.specs.Jobs.{job_at}
 use Rattle.job_words.specs.declared.job.Job.{Job as Asked}
+use Rattle.job_words.specs.declared.job.JobName.TheVariants as name
 use Rattle.job_words.specs.declared.job.UsageFault.{UsageFault}
-use Rattle.job_run.specs.Texts.{usage_line, yes_text, illegal_text}
+use Rattle.job_run.specs.Texts.{usage_line}
 use Rattle.job_run.specs.TraceTexts.{trace_answer}
 use Rattle.job_run.specs.Faults.{of_trace, fault_line}
 use Rattle.job_run.specs.Readings.{Reading, input_of, Alone, complex_of}
 use Rattle.job_run.specs.Descriptions.{Describes}
+use Rattle.job_run.specs.Spheres.{TellsObstacle, TellsCertified, TellsCertificate, TellsDescent, TellsCycle}
 use Rattle.job_run.specs.declared.fault.Fault.{Fault}
 use Rattle.job_run.specs.declared.fault.Fault.TheVariants as fault
 use Rattle.trace_text.specs.Traces.{Trace, names}
 use Rattle.trace_text.specs.Grammar.{trace_of, Reading as TraceReading}
 use Rattle.trace_text.specs.declared.fault.TraceFault.{TraceFault}
 use Rattle.job_run.specs.Traced.{opened_for, end_of, is_clean, IsTraced, IsTraceRun}
-use Rattle.job_run.specs.Answers.{name_of, limit_of, IsJob, IsVerdict, IsReplayed, IsTraceAnswer, IsInfoAnswer, TellsFacts, MayEnd, IsDone, HasFault, Refuses, IsJudged, IsFound, IsAnswer, Same, AnswerIsOne, TellsSphere, RunsClean, TellsReport, NamesNoJob, FitsWords, EndsJob, RefusesWords, IsDecided, Answered, BegunWith}
+use Rattle.job_run.specs.Answers.{IsOf, limit_of, IsJob, IsVerdict, IsReplayed, IsTraceAnswer, IsInfoAnswer, TellsFacts, IsSphereAnswer, EndsDescent, FitsJob, FitsSphere, DecidesJob, AsksForDescent, HasVerdict, MayEnd, IsDone, HasFault, HasSphereFault, Refuses, IsJudged, IsFound, IsAnswer, Same, AnswerIsOne, RunsClean, TellsReport, NamesNoJob, FitsWords, EndsJob, RefusesWords, IsDecided, Answered, BegunWith}
 use Rattle.job_run.specs.declared.job.Job.{Job}
 use Rattle.job_run.specs.declared.job.Job.TheVariants as job
 use Rattle.job_run.specs.declared.job.JobReport.{JobReport}
 use Rattle.job_run.specs.declared.job.JobReport.TheVariants as report
 use Rattle.job_run.specs.declared.job.Status.{Status}
-use Rattle.job_run.specs.declared.job.Status.TheVariants.{Yes, No, Usage, BadInput}
+use Rattle.job_run.specs.declared.job.Status.TheVariants.{Yes, No, Undecided, Usage, BadInput}
 use Rattle.flip_world.proofs.OneStep.{runs_one}
 use Rattle.job_run.proofs.Describing.{same_description}
-use Rattle.job_run.proofs.Replays.{Fate, fate, sphere_fate, illegal_fate, replayed_fate}
+use Rattle.job_run.proofs.Obstructed.{none_or_obstacle}
+use Rattle.job_run.proofs.Led.{same_sphere, sphere_fits, sphere_ends, sphere_no, sphere_yes, sphere_descent, cycle_yes}
+use Rattle.job_run.proofs.Replays.{same_verdict, yes_shows, shown_yes, verdict_decided}
+
+-- what follows from a fact of a result
+pub if_ok_so : {A E : Type 0} (r : Result A E) (P Q : A → Type 0) → ((a : A) → P a → Q a) → IfOk r P → IfOk r Q
+if_ok_so (Ok a) P Q f h = f a h
+if_ok_so (Err e) P Q f h = tt
 
 -- ---- replays
 
--- the same status and the same text
-abbrev Told : Status → Status → List ℕ → List ℕ → Type 0
-Told s t xs ys = (s ≡ t) × (xs ≡ ys)
-
-ends_differ : (k : Space) (flips : List Flip) (end : Space) (number : ℕ) (reason : Illegal) → fate 1 k flips ≡ Ok end → fate 1 k flips ≡ Err (number, reason) → ⊥
-ends_differ k flips end number reason e b = cc
-
-same_end : (k : Space) (flips : List Flip) (a b : Space) → fate 1 k flips ≡ Ok a → fate 1 k flips ≡ Ok b → a ≡ b
-same_end k flips a b e g = cc
-
-same_break : (f : Fate) (p q : ℕ × Illegal) → f ≡ Err p → f ≡ Err q → p ≡ q
-same_break f p q e g = cc
-
-same_verdict : (k : Space) (flips : List Flip) (s t : Status) (xs ys : List ℕ) → IsVerdict k flips s xs → IsVerdict k flips t ys → Told s t xs ys
-same_verdict k flips s t xs ys (inl a) (inl b) =
-    let e : a.certificate.end ≡ b.certificate.end = same_end k flips a.certificate.end b.certificate.end (sphere_fate k flips a.certificate) (sphere_fate k flips b.certificate) in
-    (a.is_yes ∙ sym b.is_yes, a.says ∙ ap (λ l. yes_text (length flips) (length l.facets)) e ∙ sym b.says)
-same_verdict k flips s t xs ys (inl a) (inr (inl b)) = absurd (ends_differ k flips a.certificate.end b.number b.reason (sphere_fate k flips a.certificate) (illegal_fate k flips b.number b.reason b.first))
-same_verdict k flips s t xs ys (inl a) (inr (inr b)) =
-    let e : a.certificate.end ≡ b.end = same_end k flips a.certificate.end b.end (sphere_fate k flips a.certificate) (replayed_fate 1 k flips b.end b.replays) in
-    let P : Space → Type 0 = λ l. IsBoundary l in absurd (b.elsewhere (subst P e a.certificate.boundary))
-same_verdict k flips s t xs ys (inr (inl a)) (inl b) = absurd (ends_differ k flips b.certificate.end a.number a.reason (sphere_fate k flips b.certificate) (illegal_fate k flips a.number a.reason a.first))
-same_verdict k flips s t xs ys (inr (inl a)) (inr (inl b)) =
-    let y : (a.number, a.reason) ≡ (b.number, b.reason) = same_break (fate 1 k flips) (a.number, a.reason) (b.number, b.reason) (illegal_fate k flips a.number a.reason a.first) (illegal_fate k flips b.number b.reason b.first) in
-    (a.is_no ∙ sym b.is_no, a.says ∙ ap (λ p. illegal_text p.0 p.1) y ∙ sym b.says)
-same_verdict k flips s t xs ys (inr (inl a)) (inr (inr b)) = absurd (ends_differ k flips b.end a.number a.reason (replayed_fate 1 k flips b.end b.replays) (illegal_fate k flips a.number a.reason a.first))
-same_verdict k flips s t xs ys (inr (inr a)) (inl b) =
-    let e : b.certificate.end ≡ a.end = same_end k flips b.certificate.end a.end (sphere_fate k flips b.certificate) (replayed_fate 1 k flips a.end a.replays) in
-    let P : Space → Type 0 = λ l. IsBoundary l in absurd (a.elsewhere (subst P e b.certificate.boundary))
-same_verdict k flips s t xs ys (inr (inr a)) (inr (inl b)) = absurd (ends_differ k flips a.end b.number b.reason (replayed_fate 1 k flips a.end a.replays) (illegal_fate k flips b.number b.reason b.first))
-same_verdict k flips s t xs ys (inr (inr a)) (inr (inr b)) = (a.is_no ∙ sym b.is_no, a.says ∙ sym b.says)
-
 -- what a reading tells
-same_input : (r : Reading) (p q : Space × List Flip) → r ≡ Ok p → r ≡ Ok q → p ≡ q
+same_input : (r : Reading) (p q : Space × Claim) → r ≡ Ok p → r ≡ Ok q → p ≡ q
 same_input r p q e g = cc
 
 same_replay : (bytes : List ℕ) (s t : Status) (xs ys : List ℕ) (p q : JobReport) → IsReplayed bytes s xs p → IsReplayed bytes t ys q → Same s t xs ys p q
 same_replay bytes s t xs ys p q a b =
-    let e : (b.start, b.flips) ≡ (a.start, a.flips) = same_input (input_of bytes) (b.start, b.flips) (a.start, a.flips) b.input a.input in
-    let P : Space × List Flip → Type 0 = λ l. IsVerdict l.0 l.1 t ys in
-    let v : Told s t xs ys = same_verdict a.start a.flips s t xs ys a.verdict (subst P e b.verdict) in
+    let e : (b.start, b.claim) ≡ (a.start, a.claim) = same_input (input_of bytes) (b.start, b.claim) (a.start, a.claim) b.input a.input in
+    let P : Space × Claim → Type 0 = λ l. IsVerdict l.0 l.1 t ys in
+    let v : (s ≡ t) × (xs ≡ ys) = same_verdict a.start a.claim s t xs ys a.verdict (subst P e b.verdict) in
     record { statuses = v.0; texts = v.1; reports = a.reports ∙ sym b.reports }
 
 -- ---- traces
@@ -140,12 +115,40 @@ same_facts bytes xs ys a b =
 same_info : (bytes : List ℕ) (s t : Status) (xs ys : List ℕ) (p q : JobReport) → IsInfoAnswer bytes s xs p → IsInfoAnswer bytes t ys q → Same s t xs ys p q
 same_info bytes s t xs ys p q a b = record { statuses = a.is_yes ∙ sym b.is_yes; texts = same_facts bytes xs ys a.facts b.facts; reports = a.reports ∙ sym b.reports }
 
+-- ---- spheres
+
+-- a complex that was read has no fault
+no_complex : (bytes : List ℕ) (e : Fault) (k : Space) → complex_of bytes ≡ Err e → complex_of bytes ≡ Ok k → ⊥
+no_complex bytes e k f g = differ (complex_of bytes) f g
+  where
+    differ : (r : Alone) → r ≡ Err e → r ≡ Ok k → ⊥
+    differ r i o = cc
+
+same_complex_fault : (bytes : List ℕ) (e f : Fault) → complex_of bytes ≡ Err e → complex_of bytes ≡ Err f → e ≡ f
+same_complex_fault bytes e f a b = one (complex_of bytes) a b
+  where
+    one : (r : Alone) → r ≡ Err e → r ≡ Err f → e ≡ f
+    one r p q = cc
+
+same_sphere_fault : (plan : Numbers) (bytes : List ℕ) (e f : Fault) → HasSphereFault plan bytes e → HasSphereFault plan bytes f → e ≡ f
+same_sphere_fault plan bytes e f (inl a) (inl b) = same_complex_fault bytes e f a b
+same_sphere_fault plan bytes e f (inl a) (inr b) = absurd (no_complex bytes e b.none.complex a b.none.input)
+same_sphere_fault plan bytes e f (inr a) (inl b) = absurd (no_complex bytes f a.none.complex b a.none.input)
+same_sphere_fault plan bytes e f (inr a) (inr b) = a.is_form ∙ sym b.is_form
+
+sphere_faultless : (plan : Numbers) (bytes : List ℕ) (e : Fault) (s : Status) (xs : List ℕ) (p : JobReport) → HasSphereFault plan bytes e → IsSphereAnswer plan bytes s xs p → ⊥
+sphere_faultless plan bytes e s xs p (inl f) (inl a) = no_complex bytes e a.obstacle.complex f a.obstacle.input
+sphere_faultless plan bytes e s xs p (inl f) (inr a) = no_complex bytes e a.descent.none.complex f a.descent.none.input
+sphere_faultless plan bytes e s xs p (inr f) (inl a) = none_or_obstacle bytes xs f.none a.obstacle
+sphere_faultless plan bytes e s xs p (inr f) (inr a) = f.rounds a.rounds
+
 -- ---- any job
 
 same_done : (j : Job) (bytes : List ℕ) (s t : Status) (xs ys : List ℕ) (p q : JobReport) → IsDone j bytes s xs p → IsDone j bytes t ys q → Same s t xs ys p q
 same_done job.Replay bytes s t xs ys p q a b = same_replay bytes s t xs ys p q a b
 same_done job.Trace bytes s t xs ys p q a b = same_trace bytes s t xs ys p q a b
 same_done job.Info bytes s t xs ys p q a b = same_info bytes s t xs ys p q a b
+same_done (job.Sphere plan) bytes s t xs ys p q a b = same_sphere plan bytes s t xs ys p q a b
 
 -- what is refused for a fault is refused alike
 same_refusal : (e f : Fault) (s t : Status) (xs ys : List ℕ) (p q : JobReport) → e ≡ f → Refuses e s xs p → Refuses f t ys q → Same s t xs ys p q
@@ -161,10 +164,8 @@ same_fault job.Trace bytes e f a b = a.2 ∙ ap of_trace (one (trace_of bytes) a
   where
     one : (r : TraceReading Trace) (i k : TraceFault) → r ≡ Err i → r ≡ Err k → i ≡ k
     one r i k p q = cc
-same_fault job.Info bytes e f a b = one (complex_of bytes) a b
-  where
-    one : (r : Alone) → r ≡ Err e → r ≡ Err f → e ≡ f
-    one r p q = cc
+same_fault job.Info bytes e f a b = same_complex_fault bytes e f a b
+same_fault (job.Sphere plan) bytes e f a b = same_sphere_fault plan bytes e f a b
 
 -- a trace that was read has no fault
 no_trace : (bytes : List ℕ) (e : TraceFault) (t : Trace) → trace_of bytes ≡ Err e → trace_of bytes ≡ Ok t → ⊥
@@ -173,17 +174,19 @@ no_trace bytes e t f g = differ (trace_of bytes) f g
     differ : (r : TraceReading Trace) → r ≡ Err e → r ≡ Ok t → ⊥
     differ r i k = cc
 
+-- nor has an input of `replay`
+no_input : (bytes : List ℕ) (e : Fault) (x : Space × Claim) → input_of bytes ≡ Err e → input_of bytes ≡ Ok x → ⊥
+no_input bytes e x f g = differ (input_of bytes) f g
+  where
+    differ : (r : Reading) → r ≡ Err e → r ≡ Ok x → ⊥
+    differ r i k = cc
+
 -- what has a fault is no input
 faultless : (j : Job) (bytes : List ℕ) (e : Fault) (s : Status) (xs : List ℕ) (p : JobReport) → HasFault j bytes e → IsDone j bytes s xs p → ⊥
-faultless job.Replay bytes e s xs p f a = differ (input_of bytes) (a.start, a.flips) f a.input
-  where
-    differ : (r : Reading) (x : Space × List Flip) → r ≡ Err e → r ≡ Ok x → ⊥
-    differ r x i k = cc
+faultless job.Replay bytes e s xs p f a = no_input bytes e (a.start, a.claim) f a.input
 faultless job.Trace bytes e s xs p f a = no_trace bytes f.0 a.run.trace f.1 a.run.input
-faultless job.Info bytes e s xs p f a = differ (complex_of bytes) a.facts.complex f a.facts.input
-  where
-    differ : (r : Alone) (k : Space) → r ≡ Err e → r ≡ Ok k → ⊥
-    differ r k i o = cc
+faultless job.Info bytes e s xs p f a = no_complex bytes e a.facts.complex f a.facts.input
+faultless (job.Sphere plan) bytes e s xs p f a = sphere_faultless plan bytes e s xs p f a
 
 same_judgement : (j : Job) (bytes : List ℕ) (s t : Status) (xs ys : List ℕ) (p q : JobReport) → IsJudged j bytes s xs p → IsJudged j bytes t ys q → Same s t xs ys p q
 same_judgement j bytes s t xs ys p q (inl a) (inl b) = same_refusal a.first b.first s t xs ys p q (same_fault j bytes a.first b.first a.has b.has) a.refused b.refused
@@ -197,24 +200,33 @@ same_finding j bytes s t xs ys p q (inl a) (inr b) = absurd (omega (arith, a.lon
 same_finding j bytes s t xs ys p q (inr a) (inl b) = absurd (omega (arith, b.long, a.short))
 same_finding j bytes s t xs ys p q (inr a) (inr b) = same_judgement j bytes s t xs ys p q a.judged b.judged
 
--- each built job has a name of its own
-same_name : (i j : Job) → name_of i ≡ name_of j → i ≡ j
-same_name job.Replay job.Replay e = refl
-same_name job.Trace job.Trace e = refl
-same_name job.Info job.Info e = refl
-same_name job.Replay job.Trace e = cc
-same_name job.Replay job.Info e = cc
-same_name job.Trace job.Replay e = cc
-same_name job.Trace job.Info e = cc
-same_name job.Info job.Replay e = cc
-same_name job.Info job.Trace e = cc
+-- what was asked for is one job
+same_of : (asked : Asked) (i j : Job) → IsOf asked i → IsOf asked j → i ≡ j
+same_of asked job.Replay job.Replay e f = refl
+same_of asked job.Replay job.Trace e f = let z : name.Replay ≡ name.Trace = sym e ∙ f in cc
+same_of asked job.Replay job.Info e f = let z : name.Replay ≡ name.Info = sym e ∙ f in cc
+same_of asked job.Replay (job.Sphere other) e f = let z : name.Replay ≡ name.Sphere = sym e ∙ f.0 in cc
+same_of asked job.Trace job.Replay e f = let z : name.Trace ≡ name.Replay = sym e ∙ f in cc
+same_of asked job.Trace job.Trace e f = refl
+same_of asked job.Trace job.Info e f = let z : name.Trace ≡ name.Info = sym e ∙ f in cc
+same_of asked job.Trace (job.Sphere other) e f = let z : name.Trace ≡ name.Sphere = sym e ∙ f.0 in cc
+same_of asked job.Info job.Replay e f = let z : name.Info ≡ name.Replay = sym e ∙ f in cc
+same_of asked job.Info job.Trace e f = let z : name.Info ≡ name.Trace = sym e ∙ f in cc
+same_of asked job.Info job.Info e f = refl
+same_of asked job.Info (job.Sphere other) e f = let z : name.Info ≡ name.Sphere = sym e ∙ f.0 in cc
+same_of asked (job.Sphere plan) job.Replay e f = let z : name.Sphere ≡ name.Replay = sym e.0 ∙ f in cc
+same_of asked (job.Sphere plan) job.Trace e f = let z : name.Sphere ≡ name.Trace = sym e.0 ∙ f in cc
+same_of asked (job.Sphere plan) job.Info e f = let z : name.Sphere ≡ name.Info = sym e.0 ∙ f in cc
+same_of asked (job.Sphere plan) (job.Sphere other) e f = ap (λ n. job.Sphere n) (sym e.1 ∙ f.1)
 
 same_asked : (r : Result Asked UsageFault) (a b : Asked) → r ≡ Ok a → r ≡ Ok b → a ≡ b
 same_asked r a b e g = cc
 
 -- words name one job
 same_job : (words : List (List ℕ)) (i j : Job) → IsJob words i → IsJob words j → i ≡ j
-same_job words i j a b = same_name i j (sym a.named ∙ ap (λ (x : Asked). x.name) (same_asked (job_at words) a.asked b.asked a.asks b.asks) ∙ b.named)
+same_job words i j a b =
+    let P : Asked → Type 0 = λ x. IsOf x i in
+    same_of b.asked i j (subst P (same_asked (job_at words) a.asked b.asked a.asks b.asks) a.is) b.is
 
 pub answer_is_one : AnswerIsOne
 answer_is_one words bytes s t xs ys p q (inl a) (inl b) = record { statuses = a.is_usage ∙ sym b.is_usage; texts = a.says ∙ sym b.says; reports = a.reports ∙ sym b.reports }
@@ -240,41 +252,38 @@ decided_done j bytes s xs p (inr a) d = (a.short, judged_done a.judged)
     judged_done (inl b) = absurd (d b.refused.is_bad)
     judged_done (inr b) = b
 
-not_bad : (s : Status) → IsDecided s → s ≡ BadInput → ⊥
-not_bad s (inl y) e = let z : Yes ≡ BadInput = sym y ∙ e in cc
-not_bad s (inr n) e = let z : No ≡ BadInput = sym n ∙ e in cc
+not_bad : (s : Status) → HasVerdict s → s ≡ BadInput → ⊥
+not_bad s (inl (inl y)) e = let z : Yes ≡ BadInput = sym y ∙ e in cc
+not_bad s (inl (inr n)) e = let z : No ≡ BadInput = sym n ∙ e in cc
+not_bad s (inr u) e = let z : Undecided ≡ BadInput = sym u ∙ e in cc
 
 -- ---- a Yes of replay
 
-yes_verdict : (k : Space) (flips : List Flip) (s : Status) (xs : List ℕ) → IsVerdict k flips s xs → s ≡ Yes → SphereCert k flips
-yes_verdict k flips s xs (inl a) e = a.certificate
-yes_verdict k flips s xs (inr (inl a)) e = let z : No ≡ Yes = sym a.is_no ∙ e in cc
-yes_verdict k flips s xs (inr (inr a)) e = let z : No ≡ Yes = sym a.is_no ∙ e in cc
-
-yes_told : (bytes : List ℕ) (s : Status) (xs : List ℕ) (p : JobReport) → IsFound job.Replay bytes s xs p → s ≡ Yes → TellsSphere bytes
+yes_told : (bytes : List ℕ) (s : Status) (xs : List ℕ) (p : JobReport) → IsFound job.Replay bytes s xs p → s ≡ Yes → TellsCertified bytes
 yes_told bytes s xs p a e =
-    let d : (length bytes ≤ limit_of job.Replay) × IsDone job.Replay bytes s xs p = decided_done job.Replay bytes s xs p a (not_bad s (inl e)) in
-    record { short = d.0; start = d.1.start; flips = d.1.flips; input = d.1.input; certificate = yes_verdict d.1.start d.1.flips s xs d.1.verdict e }
+    let d : (length bytes ≤ limit_of job.Replay) × IsDone job.Replay bytes s xs p = decided_done job.Replay bytes s xs p a (not_bad s (inl (inl e))) in
+    record { short = d.0; start = d.1.start; claim = d.1.claim; input = d.1.input; shows = yes_shows d.1.start d.1.claim s xs d.1.verdict e }
 
--- the answer to the text of a complex and of a certificate of it
-sphere_answer : (bytes : List ℕ) (h : TellsSphere bytes) → IsFound job.Replay bytes Yes (yes_text (length h.flips) (length h.certificate.end.facets)) report.Nothing
-sphere_answer bytes h = inr (record {
-  short = h.short;
-  judged = inr (record {
-    start = h.start;
-    flips = h.flips;
-    input = h.input;
-    verdict = inl (record { is_yes = refl; certificate = h.certificate; says = refl });
-    reports = refl;
-  });
-})
+certified_done : (bytes : List ℕ) (s : Status) (xs : List ℕ) (p : JobReport) → TellsCertified bytes → IsReplayed bytes s xs p → s ≡ Yes
+certified_done bytes s xs p h a =
+    let P : Space × Claim → Type 0 = λ l. IsVerdict l.0 l.1 s xs in
+    let v : IsVerdict h.start h.claim s xs = subst P (same_input (input_of bytes) (a.start, a.claim) (h.start, h.claim) a.input h.input) a.verdict in
+    shown_yes h.start h.claim s xs v h.shows
 
--- an answer of `replay` is a Yes exactly where the bytes tell a sphere
-pub yes_is : (words : List (List ℕ)) (bytes : List ℕ) (s : Status) (xs : List ℕ) (p : JobReport) → IsJob words job.Replay → IsAnswer words bytes s xs p → (s ≡ Yes) ↔ TellsSphere bytes
+certified_found : (bytes : List ℕ) (s : Status) (xs : List ℕ) (p : JobReport) → TellsCertified bytes → IsFound job.Replay bytes s xs p → s ≡ Yes
+certified_found bytes s xs p h (inl a) = absurd (omega (arith, a.long, h.short))
+certified_found bytes s xs p h (inr a) = judged a.judged
+  where
+    judged : IsJudged job.Replay bytes s xs p → s ≡ Yes
+    judged (inl b) = absurd (no_input bytes b.first (h.start, h.claim) b.has h.input)
+    judged (inr b) = certified_done bytes s xs p h b
+
+-- an answer of `replay` is a Yes exactly where the bytes tell a certificate that shows what it claims
+pub yes_is : (words : List (List ℕ)) (bytes : List ℕ) (s : Status) (xs : List ℕ) (p : JobReport) → IsJob words job.Replay → IsAnswer words bytes s xs p → (s ≡ Yes) ↔ TellsCertified bytes
 yes_is words bytes s xs p n a =
     let f : IsFound job.Replay bytes s xs p = answer_of words job.Replay bytes s xs p n a in (
       λ e. yes_told bytes s xs p f e,
-      λ h. (same_finding job.Replay bytes s Yes xs (yes_text (length h.flips) (length h.certificate.end.facets)) p report.Nothing f (sphere_answer bytes h)).statuses,
+      λ h. certified_found bytes s xs p h f,
     )
 
 -- ---- a Yes of trace
@@ -285,7 +294,7 @@ clean_of false e = cc
 
 clean_told : (bytes : List ℕ) (s : Status) (xs : List ℕ) (p : JobReport) → IsFound job.Trace bytes s xs p → s ≡ Yes → RunsClean bytes
 clean_told bytes s xs p a e =
-    let d : (length bytes ≤ limit_of job.Trace) × IsDone job.Trace bytes s xs p = decided_done job.Trace bytes s xs p a (not_bad s (inl e)) in
+    let d : (length bytes ≤ limit_of job.Trace) × IsDone job.Trace bytes s xs p = decided_done job.Trace bytes s xs p a (not_bad s (inl (inl e))) in
     let r : IsTraceRun bytes s xs d.1.last = d.1.run in
     record {
       short = d.0;
@@ -328,13 +337,37 @@ clean_is words bytes s xs p n a =
 
 history_of : (words : List (List ℕ)) (bytes : List ℕ) (s : Status) (xs : List ℕ) (p : JobReport) → IsJob words job.Trace → IsDecided s → IsAnswer words bytes s xs p → TellsReport bytes xs p
 history_of words bytes s xs p n d a =
-    let f : (length bytes ≤ limit_of job.Trace) × IsDone job.Trace bytes s xs p = decided_done job.Trace bytes s xs p (answer_of words job.Trace bytes s xs p n a) (not_bad s d) in
+    let f : (length bytes ≤ limit_of job.Trace) × IsDone job.Trace bytes s xs p = decided_done job.Trace bytes s xs p (answer_of words job.Trace bytes s xs p n a) (not_bad s (inl d)) in
     record { trace = f.1.run.trace; input = f.1.run.input; last = f.1.last; reports = f.1.reports; history = f.1.run.history }
 
 -- ---- the facts of a complex
 
 facts_of : (words : List (List ℕ)) (bytes : List ℕ) (s : Status) (xs : List ℕ) (p : JobReport) → IsJob words job.Info → s ≡ Yes → IsAnswer words bytes s xs p → TellsFacts bytes xs
-facts_of words bytes s xs p n e a = (decided_done job.Info bytes s xs p (answer_of words job.Info bytes s xs p n a) (not_bad s (inl e))).1.facts
+facts_of words bytes s xs p n e a = (decided_done job.Info bytes s xs p (answer_of words job.Info bytes s xs p n a) (not_bad s (inl (inl e)))).1.facts
+
+-- ---- what `sphere` tells
+
+sphere_of : (words : List (List ℕ)) (plan : Numbers) (bytes : List ℕ) (s : Status) (xs : List ℕ) (p : JobReport) → IsJob words (job.Sphere plan) → HasVerdict s → IsAnswer words bytes s xs p → IsSphereAnswer plan bytes s xs p
+sphere_of words plan bytes s xs p n v a = (decided_done (job.Sphere plan) bytes s xs p (answer_of words (job.Sphere plan) bytes s xs p n a) (not_bad s v)).1
+
+cycle_found : (plan : Numbers) (bytes : List ℕ) (s : Status) (xs : List ℕ) (p : JobReport) → plan.rounds ≡ 0 → TellsCycle bytes → IsFound (job.Sphere plan) bytes s xs p → s ≡ Yes
+cycle_found plan bytes s xs p r h (inl a) = absurd (omega (arith, a.long, h.short))
+cycle_found plan bytes s xs p r h (inr a) = judged a.judged
+  where
+    faulty : (e : Fault) → HasSphereFault plan bytes e → ⊥
+    faulty e (inl f) = no_complex bytes e h.complex f h.input
+    faulty e (inr f) = f.rounds r
+
+    judged : IsJudged (job.Sphere plan) bytes s xs p → s ≡ Yes
+    judged (inl b) = absurd (faulty b.first b.has)
+    judged (inr b) = cycle_yes plan bytes s xs p h b
+
+verdict_of : (plan : Numbers) (s : Status) → EndsDescent plan s → HasVerdict s
+verdict_of plan s h = ends h.ends
+  where
+    ends : (s ≡ Yes) ⊎ (s ≡ Undecided) → HasVerdict s
+    ends (inl y) = inl (inl y)
+    ends (inr u) = inr u
 
 -- ---- what words alone tell
 
@@ -343,18 +376,24 @@ pub refused_words : (words : List (List ℕ)) (s : Status) (xs : List ℕ) (p : 
 refused_words words s xs p (inl a) n = inl a.is_usage
 refused_words words s xs p (inr a) n = absurd (n a.job a.named)
 
-no_usage : (s : Status) → IsDecided s ⊎ (s ≡ BadInput) → s ≡ Usage → ⊥
-no_usage s (inl (inl y)) e = let z : Yes ≡ Usage = sym y ∙ e in cc
-no_usage s (inl (inr n)) e = let z : No ≡ Usage = sym n ∙ e in cc
+no_usage : (s : Status) → HasVerdict s ⊎ (s ≡ BadInput) → s ≡ Usage → ⊥
+no_usage s (inl (inl (inl y))) e = let z : Yes ≡ Usage = sym y ∙ e in cc
+no_usage s (inl (inl (inr n))) e = let z : No ≡ Usage = sym n ∙ e in cc
+no_usage s (inl (inr u)) e = let z : Undecided ≡ Usage = sym u ∙ e in cc
 no_usage s (inr b) e = let z : BadInput ≡ Usage = sym b ∙ e in cc
 
-decided : (j : Job) (s : Status) → MayEnd j s → IsDecided s
-decided job.Replay s d = d
-decided job.Trace s d = d
-decided job.Info s d = inl d
+sphere_verdict : (plan : Numbers) (s : Status) → (s ≡ No) ⊎ EndsDescent plan s → HasVerdict s
+sphere_verdict plan s (inl n) = inl (inr n)
+sphere_verdict plan s (inr h) = verdict_of plan s h
 
-ended : (j : Job) (s : Status) (p : JobReport) → EndsJob j s p → IsDecided s ⊎ (s ≡ BadInput)
-ended j s p (inl d) = inl (decided j s d.decided)
+verdict : (j : Job) (s : Status) → MayEnd j s → HasVerdict s
+verdict job.Replay s d = inl d
+verdict job.Trace s d = inl d
+verdict job.Info s d = inl (inl d)
+verdict (job.Sphere plan) s d = sphere_verdict plan s d
+
+ended : (j : Job) (s : Status) (p : JobReport) → EndsJob j s p → HasVerdict s ⊎ (s ≡ BadInput)
+ended j s p (inl d) = inl (verdict j s d.decided)
 ended j s p (inr b) = inr b.is_bad
 
 -- words that ask for a job are not refused
@@ -374,12 +413,94 @@ info_words words s xs p (inr a) n e = ends (same_job words a.job job.Info a.name
         no_no (inl y) = let z : Yes ≡ No = sym y.decided ∙ e in cc
         no_no (inr b) = let z : BadInput ≡ No = sym b.is_bad ∙ e in cc
 
+-- ---- the end of a job
+
+not_undecided : (s : Status) → IsDecided s → s ≡ Undecided → ⊥
+not_undecided s (inl y) e = let z : Yes ≡ Undecided = sym y ∙ e in cc
+not_undecided s (inr n) e = let z : No ≡ Undecided = sym n ∙ e in cc
+
+sphere_undecided : (words : List (List ℕ)) (plan : Numbers) (s : Status) → IsJob words (job.Sphere plan) → (s ≡ No) ⊎ EndsDescent plan s → s ≡ Undecided → AsksForDescent words
+sphere_undecided words plan s n (inl o) e = absurd (not_undecided s (inr o) e)
+sphere_undecided words plan s n (inr h) e = record { plan = plan; named = n; rounds = h.rounds }
+
+job_undecided : (words : List (List ℕ)) (j : Job) (s : Status) → IsJob words j → MayEnd j s → s ≡ Undecided → AsksForDescent words
+job_undecided words job.Replay s n d e = absurd (not_undecided s d e)
+job_undecided words job.Trace s n d e = absurd (not_undecided s d e)
+job_undecided words job.Info s n d e = absurd (not_undecided s (inl d) e)
+job_undecided words (job.Sphere plan) s n d e = sphere_undecided words plan s n d e
+
+end_undecided : (words : List (List ℕ)) (j : Job) (s : Status) (p : JobReport) → IsJob words j → EndsJob j s p → s ≡ Undecided → AsksForDescent words
+end_undecided words j s p n (inl d) e = job_undecided words j s n d.decided e
+end_undecided words j s p n (inr b) e = let z : BadInput ≡ Undecided = sym b.is_bad ∙ e in cc
+
+-- Undecided is said to words that ask for a descent
+pub undecided_words : (words : List (List ℕ)) (s : Status) (xs : List ℕ) (p : JobReport) → FitsWords words s xs p → s ≡ Undecided → AsksForDescent words
+undecided_words words s xs p (inl a) e = let z : Usage ≡ Undecided = sym a.is_usage ∙ e in cc
+undecided_words words s xs p (inr a) e = end_undecided words a.job s p a.named a.ends e
+
+end_fits : (j : Job) (s : Status) (p : JobReport) → EndsJob j s p → HasVerdict s → FitsJob j s p
+end_fits j s p (inl d) v = d.fits
+end_fits j s p (inr b) v = absurd (not_bad s v b.is_bad)
+
+-- a verdict has the report of the job that is asked for
+pub fitting_words : (words : List (List ℕ)) (s : Status) (xs : List ℕ) (p : JobReport) → FitsWords words s xs p → (j : Job) → IsJob words j → HasVerdict s → FitsJob j s p
+fitting_words words s xs p (inl a) j n v = absurd (a.other j n)
+fitting_words words s xs p (inr a) j n v = let P : Job → Type 0 = λ i. EndsJob i s p in end_fits j s p (subst P (same_job words a.job j a.named n) a.ends) v
+
+-- other words have no report
+sphere_silent : (words : List (List ℕ)) (plan : Numbers) (s : Status) (p : JobReport) → IsJob words (job.Sphere plan) → (AsksForDescent words → ⊥) → (s ≡ No) ⊎ EndsDescent plan s → FitsSphere s p → p ≡ report.Nothing
+sphere_silent words plan s p n o (inl i) h = h.no i
+sphere_silent words plan s p n o (inr i) h = absurd (o (record { plan = plan; named = n; rounds = i.rounds }))
+
+job_silent : (words : List (List ℕ)) (j : Job) (s : Status) (p : JobReport) → IsJob words j → (IsJob words job.Trace → ⊥) → (AsksForDescent words → ⊥) → DecidesJob j s p → p ≡ report.Nothing
+job_silent words job.Replay s p n t o d = d.fits
+job_silent words job.Trace s p n t o d = absurd (t n)
+job_silent words job.Info s p n t o d = d.fits
+job_silent words (job.Sphere plan) s p n t o d = sphere_silent words plan s p n o d.decided d.fits
+
+end_silent : (words : List (List ℕ)) (j : Job) (s : Status) (p : JobReport) → IsJob words j → (IsJob words job.Trace → ⊥) → (AsksForDescent words → ⊥) → EndsJob j s p → p ≡ report.Nothing
+end_silent words j s p n t o (inl d) = job_silent words j s p n t o d
+end_silent words j s p n t o (inr b) = b.reports
+
+pub silent_words : (words : List (List ℕ)) (s : Status) (xs : List ℕ) (p : JobReport) → FitsWords words s xs p → (IsJob words job.Trace → ⊥) → (AsksForDescent words → ⊥) → p ≡ report.Nothing
+silent_words words s xs p (inl a) t o = a.reports
+silent_words words s xs p (inr a) t o = end_silent words a.job s p a.named t o a.ends
+
+run_decided : (b : Bool) (s : Status) → s ≡ (if b then Yes else No) → IsDecided s
+run_decided true s e = inl e
+run_decided false s e = inr e
+
+done_ends : (j : Job) (bytes : List ℕ) (s : Status) (xs : List ℕ) (p : JobReport) → IsDone j bytes s xs p → DecidesJob j s p
+done_ends job.Replay bytes s xs p a = record { decided = verdict_decided a.start a.claim s xs a.verdict; fits = a.reports }
+done_ends job.Trace bytes s xs p a = record { decided = run_decided (is_clean a.run.traced.turns a.last) s a.run.traced.status_is; fits = (a.last, a.reports) }
+done_ends job.Info bytes s xs p a = record { decided = a.is_yes; fits = a.reports }
+done_ends (job.Sphere plan) bytes s xs p a = record { decided = sphere_ends plan bytes s xs p a; fits = sphere_fits plan bytes s xs p a }
+
+-- what is judged ends as its job does
+pub judged_ends : (j : Job) (bytes : List ℕ) (s : Status) (xs : List ℕ) (p : JobReport) → IsJudged j bytes s xs p → EndsJob j s p
+judged_ends j bytes s xs p (inl a) = inr (record { is_bad = a.refused.is_bad; reports = a.refused.reports })
+judged_ends j bytes s xs p (inr a) = inl (done_ends j bytes s xs p a)
+
 -- what is begun of the answer to words that ask for no job is begun of the usage line
 pub begun_usage : (old new : Option (List ℕ)) (words : List (List ℕ)) (s : Status) (xs : List ℕ) (p : JobReport) → FitsWords words s xs p → NamesNoJob words → AppendsPrefix old new xs → AppendsPrefix old new usage_line
 begun_usage old new words s xs p (inl a) n w = let P : List ℕ → Type 0 = λ text. AppendsPrefix old new text in subst P a.says w
 begun_usage old new words s xs p (inr a) n w = absurd (n a.job a.named)
 
 -- ---- the same where the bytes may be unknown
+
+-- the answer to all bytes that were left is the job's
+pub found_in_all : (old new : Option (List ℕ)) (j : Job) (bs shown : List ℕ) (s : Status) (xs : List ℕ) (p : JobReport) → TakesAll old new bs → length bs ≤ limit_of j → shown ≡ bs → IsJudged j shown s xs p → IfSome old (λ bytes. IsFound j bytes s xs p)
+found_in_all None new j bs shown s xs p t l e h = tt
+found_in_all (Some bytes) None j bs shown s xs p t l e h = absurd t.taken
+found_in_all (Some bytes) (Some rest) j bs shown s xs p t l e h =
+    let P : List ℕ → Type 0 = λ b. IsFound j b s xs p in
+    let Q : List ℕ → Type 0 = λ b. IsJudged j b s xs p in
+    subst P (sym (t.taken ∙ ap (λ ys. bs ++ ys) t.ended ∙ append-nil bs)) (inr (record { short = l; judged = subst Q e h }))
+
+-- the answer of the job that words ask for is their answer
+pub found_is_answer : (known : Option (List ℕ)) (words : List (List ℕ)) (j : Job) (s : Status) (xs : List ℕ) (p : JobReport) → IsJob words j → IfSome known (λ bytes. IsFound j bytes s xs p) → IfSome known (λ bytes. IsAnswer words bytes s xs p)
+found_is_answer None words j s xs p n h = tt
+found_is_answer (Some bytes) words j s xs p n h = inr (record { job = j; named = n; answer = h })
 
 -- what was appended is the answer
 pub answer_is_known : (known old new : Option (List ℕ)) (words : List (List ℕ)) (s : Status) (xs : List ℕ) (p : JobReport) → IfSome known (λ bytes. IsAnswer words bytes s xs p) → Appends old new xs → IfSome known (λ bytes. Answered old new (λ text. IsAnswer words bytes s text p))
@@ -391,7 +512,7 @@ pub begun_is_known : (known old new : Option (List ℕ)) (words : List (List ℕ
 begun_is_known None old new words s xs p h w = tt
 begun_is_known (Some bytes) old new words s xs p h w = record { status = s; text = xs; answers = h; begun = w }
 
-pub yes_is_known : (known : Option (List ℕ)) (words : List (List ℕ)) (s : Status) (xs : List ℕ) (p : JobReport) → IfSome known (λ bytes. IsAnswer words bytes s xs p) → IsJob words job.Replay → IfSome known (λ bytes. (s ≡ Yes) ↔ TellsSphere bytes)
+pub yes_is_known : (known : Option (List ℕ)) (words : List (List ℕ)) (s : Status) (xs : List ℕ) (p : JobReport) → IfSome known (λ bytes. IsAnswer words bytes s xs p) → IsJob words job.Replay → IfSome known (λ bytes. (s ≡ Yes) ↔ TellsCertified bytes)
 yes_is_known None words s xs p h n = tt
 yes_is_known (Some bytes) words s xs p h n = yes_is words bytes s xs p n h
 
@@ -408,3 +529,23 @@ history_is_known (Some bytes) old new words s xs p h w n d = (xs, history_of wor
 pub facts_are_known : (known old new : Option (List ℕ)) (words : List (List ℕ)) (s : Status) (xs : List ℕ) (p : JobReport) → IfSome known (λ bytes. IsAnswer words bytes s xs p) → Appends old new xs → IsJob words job.Info → s ≡ Yes → IfSome known (λ bytes. Answered old new (λ text. TellsFacts bytes text))
 facts_are_known None old new words s xs p h w n e = tt
 facts_are_known (Some bytes) old new words s xs p h w n e = (xs, facts_of words bytes s xs p n e h, w)
+
+-- a No of `sphere` that was appended tells an obstacle
+pub obstacle_is_known : (known old new : Option (List ℕ)) (words : List (List ℕ)) (plan : Numbers) (s : Status) (xs : List ℕ) (p : JobReport) → IfSome known (λ bytes. IsAnswer words bytes s xs p) → Appends old new xs → IsJob words (job.Sphere plan) → s ≡ No → IfSome known (λ bytes. Answered old new (λ text. TellsObstacle bytes text))
+obstacle_is_known None old new words plan s xs p h w n e = tt
+obstacle_is_known (Some bytes) old new words plan s xs p h w n e = (xs, sphere_no plan bytes s xs p (sphere_of words plan bytes s xs p n (inl (inr e)) h) e, w)
+
+-- a Yes of `sphere` that was appended is a certificate
+pub certificate_is_known : (known old new : Option (List ℕ)) (words : List (List ℕ)) (plan : Numbers) (s : Status) (xs : List ℕ) (p : JobReport) → IfSome known (λ bytes. IsAnswer words bytes s xs p) → Appends old new xs → IsJob words (job.Sphere plan) → s ≡ Yes → IfSome known (λ bytes. Answered old new (λ text. TellsCertificate bytes text))
+certificate_is_known None old new words plan s xs p h w n e = tt
+certificate_is_known (Some bytes) old new words plan s xs p h w n e = (xs, sphere_yes plan bytes s xs p (sphere_of words plan bytes s xs p n (inl (inl e)) h) e, w)
+
+-- a Yes and an Undecided of `sphere` report the descent
+pub descent_is_known : (known : Option (List ℕ)) (words : List (List ℕ)) (plan : Numbers) (s : Status) (xs : List ℕ) (p : JobReport) → IfSome known (λ bytes. IsAnswer words bytes s xs p) → IsJob words (job.Sphere plan) → EndsDescent plan s → IfSome known (λ bytes. TellsDescent bytes plan.room p)
+descent_is_known None words plan s xs p h n e = tt
+descent_is_known (Some bytes) words plan s xs p h n e = sphere_descent plan bytes s xs p (sphere_of words plan bytes s xs p n (verdict_of plan s e) h) e
+
+-- a complex of dimension 1 gets a Yes
+pub circle_is_known : (known : Option (List ℕ)) (words : List (List ℕ)) (s : Status) (xs : List ℕ) (p : JobReport) → IfSome known (λ bytes. IsAnswer words bytes s xs p) → AsksForDescent words → IfSome known (λ bytes. TellsCycle bytes → s ≡ Yes)
+circle_is_known None words s xs p h n = tt
+circle_is_known (Some bytes) words s xs p h n = λ t. cycle_found n.plan bytes s xs p n.rounds t (answer_of words (job.Sphere n.plan) bytes s xs p n.named h)

@@ -1,15 +1,14 @@
 -- A complex has one description.
-use Rattle.std.proofs.Common.{◌≡◌, ℕ, ◌⊎◌, List, ◌++◌, inl, inr, true, sym, ◌∙◌, ap, refl, subst}
+use Rattle.std.proofs.Common.{◌≡◌, ℕ, List, ◌++◌, inl, inr, sym, ◌∙◌, ap, refl, subst}
 use Rattle.std.specs.Cmp.Lexicographic.{nat_list_cmp_total}
 use Rattle.std.specs.Ordering.{ordering_reverse}
-use Rattle.std.specs.declared.cmp.Ordering.{Ordering}
 use Rattle.std.specs.declared.cmp.Ordering.TheVariants.{Less, Equal, Greater}
 use Rattle.complex_core.specs.Labels.{face_cmp}
 use Rattle.complex_core.specs.Spaces.{Space}
 use Rattle.complex_core.proofs.Sorting.{exact_faces}
 use Rattle.pseudo_test.specs.Ridges.{count, Closed, IsLeastOther}
 use Rattle.pseudo_test.specs.Chains.{Strong, IsLeast, IsApart}
-use Rattle.job_run.specs.Descriptions.{ridge_line, apart_line, counted_lines, TellsClosed, TellsRidge, IsClosedLine, IsStrongLine, IsOrientableLine, Describes}
+use Rattle.job_run.specs.Descriptions.{ridge_line, apart_line, counted_lines, IsClosedLine, IsStrongLine, IsOrientableLine, Describes}
 
 -- two sets neither of which is less are one
 neither_less : (f g : List ℕ) → (face_cmp f g ≡ Less → ⊥) → (face_cmp g f ≡ Less → ⊥) → f ≡ g
@@ -25,13 +24,13 @@ neither_less f g p q =
 same_ridge : (fs : List (List ℕ)) (r s : List ℕ) (m n : ℕ) → IsLeastOther fs r m → IsLeastOther fs s n → r ≡ s
 same_ridge fs r s m n a b = neither_less r s (λ l. a.other (sym a.counted ∙ b.least r a.is l)) (λ l. b.other (sym b.counted ∙ a.least s b.is l))
 
-same_ridge_line : (fs : List (List ℕ)) (r s : List ℕ) (m n : ℕ) → IsLeastOther fs r m → IsLeastOther fs s n → ridge_line r m ≡ ridge_line s n
+pub same_ridge_line : (fs : List (List ℕ)) (r s : List ℕ) (m n : ℕ) → IsLeastOther fs r m → IsLeastOther fs s n → ridge_line r m ≡ ridge_line s n
 same_ridge_line fs r s m n a b =
     let e : r ≡ s = same_ridge fs r s m n a b in
     let c : m ≡ n = sym a.counted ∙ ap (count fs) e ∙ b.counted in
     ap (λ i. ridge_line i m) e ∙ ap (λ i. ridge_line s i) c
 
-not_closed : (fs : List (List ℕ)) (r : List ℕ) (m : ℕ) → Closed fs → IsLeastOther fs r m → ⊥
+pub not_closed : (fs : List (List ℕ)) (r : List ℕ) (m : ℕ) → Closed fs → IsLeastOther fs r m → ⊥
 not_closed fs r m c a = a.other (sym a.counted ∙ c.two r a.is)
 
 same_closed_line : (fs : List (List ℕ)) (xs ys : List ℕ) → IsClosedLine fs xs → IsClosedLine fs ys → xs ≡ ys
@@ -48,14 +47,14 @@ same_least fs f g a b = neither_less f g (λ l. b.least f a.there l) (λ l. a.le
 same_other : (fs : List (List ℕ)) (f g h : List ℕ) → IsApart fs f g → IsApart fs f h → g ≡ h
 same_other fs f g h a b = neither_less g h (λ l. a.apart (b.least g a.there l)) (λ l. b.apart (a.least h b.there l))
 
-same_apart_line : (fs : List (List ℕ)) (f g h i : List ℕ) → IsApart fs f g → IsApart fs h i → apart_line f g ≡ apart_line h i
+pub same_apart_line : (fs : List (List ℕ)) (f g h i : List ℕ) → IsApart fs f g → IsApart fs h i → apart_line f g ≡ apart_line h i
 same_apart_line fs f g h i a b =
     let e : h ≡ f = same_least fs h f b.begins a.begins in
     let P : List ℕ → Type 0 = λ x. IsApart fs x i in
     let o : g ≡ i = same_other fs f g i a (subst P e b) in
     ap (λ x. apart_line x g) (sym e) ∙ ap (λ x. apart_line h x) o
 
-not_strong : (fs : List (List ℕ)) (f g : List ℕ) → Strong fs → IsApart fs f g → ⊥
+pub not_strong : (fs : List (List ℕ)) (f g : List ℕ) → Strong fs → IsApart fs f g → ⊥
 not_strong fs f g s a = a.apart (s.joined f g a.begins.there a.there)
 
 same_strong_line : (fs : List (List ℕ)) (xs ys : List ℕ) → IsStrongLine fs xs → IsStrongLine fs ys → xs ≡ ys

@@ -4,4 +4,6 @@ pub mod RunNames
 pub mod RunKept
 pub mod RunEnd
 pub mod Describing
+pub mod Obstructed
+pub mod Led
 pub mod Answering

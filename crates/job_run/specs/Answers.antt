@@ -1,27 +1,30 @@
 -- What the jobs answer.
-use Rattle.std.specs.Prelude.{◌≡◌, true, ℕ, ◌≤◌, ◌<◌, ◌⊎◌, List, length, map, Some, Ok, Err}
+use Rattle.std.specs.Prelude.{◌≡◌, ◌≢◌, true, ℕ, ◌≤◌, ◌<◌, ◌⊎◌, List, length, map, Ok, Err}
 use Rattle.std.specs.declared.option.Option.{Option}
 use Rattle.std.specs.Io.KnownBytes.{Appends}
 use Rattle.flip_io.specs.Outcomes.{AppendsPrefix}
 use Rattle.complex_core.specs.Spaces.{Space}
-use Rattle.flip_rules.specs.Flips.{replay}
 use Rattle.flip_rules.specs.Boundaries.{IsBoundary}
-use Rattle.flip_rules.specs.Certificates.{SphereCert, IsFirstIllegal}
-use Rattle.flip_rules.specs.declared.flip.Flip.{Flip}
-use Rattle.flip_rules.specs.declared.flip.Illegal.{Illegal}
+use Rattle.cert_text.specs.Claims.{Claim}
+use Rattle.cert_replay.specs.Answers.{IsAnswer as IsReplayOf}
+use Rattle.cert_replay.specs.declared.judge.Replayed.{Replayed}
+use Rattle.cert_replay.specs.declared.judge.Replayed.TheVariants.{Valid, Bad, WrongEnd}
+use Rattle.flip_names.specs.Names.{named_flips}
+use Rattle.flip_options.specs.DescentViews.{DescentView, IsDescentOf}
 use Rattle.flip_world.specs.Cores.{Core}
 use Rattle.flip_world.specs.Runs.{Turn, IsRun}
+use Rattle.anneal_plan.specs.Numbers.{Numbers}
 use Rattle.job_words.specs.Jobs.{job_at}
 use Rattle.job_words.specs.declared.job.Job.{Job as Asked}
-use Rattle.job_words.specs.declared.job.JobName.{JobName}
 use Rattle.job_words.specs.declared.job.JobName.TheVariants as name
 use Rattle.trace_text.specs.Traces.{Trace, names}
 use Rattle.trace_text.specs.Grammar.{trace_of}
 use Rattle.trace_text.specs.declared.fault.TraceFault.{TraceFault}
-use Rattle.job_run.specs.Texts.{usage_line, yes_text, illegal_text, wrong_end_text}
+use Rattle.job_run.specs.Texts.{usage_line, replayed_text}
 use Rattle.job_run.specs.Faults.{of_trace, fault_line}
 use Rattle.job_run.specs.Readings.{input_of, complex_of}
 use Rattle.job_run.specs.Descriptions.{Describes}
+use Rattle.job_run.specs.Spheres.{TellsObstacle, TellsNone, TellsDescent, TellsCertificate, found_text, undecided_text}
 use Rattle.job_run.specs.declared.fault.Fault.{Fault}
 use Rattle.job_run.specs.declared.fault.Fault.TheVariants as fault
 use Rattle.job_run.specs.Traced.{placed, opened_for, end_of, is_clean, IsTraceRun, TellsHistory}
@@ -34,63 +37,53 @@ use Rattle.job_run.specs.declared.job.Status.TheVariants.{Yes, No, Undecided, Us
 
 -- ---- the jobs
 
--- the jobs that are built
-abbrev pub name_of : Job → JobName
-name_of job.Replay = name.Replay
-name_of job.Trace = name.Trace
-name_of job.Info = name.Info
+-- what was asked for is this job, one of those that are built
+abbrev pub IsOf : Asked → Job → Type 0
+IsOf asked job.Replay = asked.name ≡ name.Replay
+IsOf asked job.Trace = asked.name ≡ name.Trace
+IsOf asked job.Info = asked.name ≡ name.Info
+IsOf asked (job.Sphere plan) = (asked.name ≡ name.Sphere) × (asked.plan ≡ plan)
 
 -- the most bytes of an input
 abbrev pub limit_of : Job → ℕ
 limit_of job.Replay = 268435456
 limit_of job.Trace = 4194304
 limit_of job.Info = 4194304
+limit_of (job.Sphere plan) = 4194304
 
--- the words ask for this job, whatever options they have
+-- the words ask for this job, whatever other options they have
 pub record IsJob (words : List (List ℕ)) (j : Job) : Type 0 where
   pub asked : Asked
   pub asks : job_at words ≡ Ok asked
-  pub named : asked.name ≡ name_of j
+  pub is : IsOf asked j
 
 -- the words ask for no job that is built
 abbrev pub NamesNoJob : List (List ℕ) → Type 0
 NamesNoJob words = (j : Job) → IsJob words j → ⊥
 
--- ---- what flips come to
+-- ---- what a certificate is answered
 
--- Yes: the flips are legal in order, and end in the boundary of a simplex
-pub record Shows (k : Space) (flips : List Flip) (status : Status) (text : List ℕ) : Type 0 where
-  pub is_yes : status ≡ Yes
-  pub certificate : SphereCert k flips
-  pub says : text ≡ yes_text (length flips) (length certificate.end.facets)
+-- Yes where the certificate shows what it claims, and No elsewhere
+abbrev pub status_of : Replayed → Status
+status_of (Valid flips count) = Yes
+status_of (Bad number reason) = No
+status_of WrongEnd = No
 
--- No: this flip is the first illegal one, for this reason
-pub record Breaks (k : Space) (flips : List Flip) (status : Status) (text : List ℕ) : Type 0 where
-  pub is_no : status ≡ No
-  pub number : ℕ
-  pub reason : Illegal
-  pub first : IsFirstIllegal k flips number reason
-  pub says : text ≡ illegal_text number reason
-
--- No: the flips are legal in order, and end elsewhere
-pub record EndsElsewhere (k : Space) (flips : List Flip) (status : Status) (text : List ℕ) : Type 0 where
-  pub is_no : status ≡ No
-  pub end : Space
-  pub replays : replay k flips ≡ Some end
-  pub elsewhere : IsBoundary end → ⊥
-  pub says : text ≡ wrong_end_text
-
-abbrev pub IsVerdict : Space → List Flip → Status → List ℕ → Type 0
-IsVerdict k flips status text = Shows k flips status text ⊎ (Breaks k flips status text ⊎ EndsElsewhere k flips status text)
+-- what the flips of the certificate come to, from this complex, with the status and the text that say so
+pub record IsVerdict (k : Space) (c : Claim) (status : Status) (text : List ℕ) : Type 0 where
+  pub comes_to : Replayed
+  pub replayed : IsReplayOf k c comes_to
+  pub status_is : status ≡ status_of comes_to
+  pub says : text ≡ replayed_text c comes_to
 
 -- ---- what each job answers to the bytes of an input
 
--- the bytes tell a complex and flips, which come to this, and nothing else is reported
+-- the bytes tell a complex and a certificate, which comes to this, and nothing else is reported
 pub record IsReplayed (bytes : List ℕ) (status : Status) (text : List ℕ) (found : JobReport) : Type 0 where
   pub start : Space
-  pub flips : List Flip
-  pub input : input_of bytes ≡ Ok (start, flips)
-  pub verdict : IsVerdict start flips status text
+  pub claim : Claim
+  pub input : input_of bytes ≡ Ok (start, claim)
+  pub verdict : IsVerdict start claim status text
   pub reports : found ≡ report.Nothing
 
 -- the bytes tell a trace, which comes to this, and the core that it ends with is reported
@@ -111,16 +104,65 @@ pub record IsInfoAnswer (bytes : List ℕ) (status : Status) (text : List ℕ) (
   pub facts : TellsFacts bytes text
   pub reports : found ≡ report.Nothing
 
+-- No, with the first fact of a sphere that the complex lacks, and nothing else is reported
+pub record IsObstructed (bytes : List ℕ) (status : Status) (text : List ℕ) (found : JobReport) : Type 0 where
+  pub is_no : status ≡ No
+  pub obstacle : TellsObstacle bytes text
+  pub reports : found ≡ report.Nothing
+
+-- Yes, where the descent ends in the boundary of a simplex: its flips in the labels that the names give
+pub record ReachesSphere (d : DescentView) (status : Status) (text : List ℕ) : Type 0 where
+  pub is_yes : status ≡ Yes
+  pub boundary : IsBoundary d.end
+  pub says : text ≡ found_text (named_flips d.names d.flips)
+
+-- Undecided, where it ends elsewhere
+pub record StaysApart (d : DescentView) (status : Status) (text : List ℕ) : Type 0 where
+  pub is_undecided : status ≡ Undecided
+  pub elsewhere : IsBoundary d.end → ⊥
+  pub says : text ≡ undecided_text (length d.flips) (length d.end.facets)
+
+abbrev pub ComesDown : DescentView → Status → List ℕ → Type 0
+ComesDown d status text = ReachesSphere d status text ⊎ StaysApart d status text
+
+-- the one descent of a complex, which is reported, comes to this
+pub record LeadsDown (k : Space) (room : ℕ) (status : Status) (text : List ℕ) (found : JobReport) : Type 0 where
+  pub descended : DescentView
+  pub descent : IsDescentOf k room descended
+  pub comes : ComesDown descended status text
+  pub reports : found ≡ report.Sphere descended
+
+-- no rounds are asked for, and the complex, which lacks no fact of a sphere, comes down to this
+pub record IsLedDown (plan : Numbers) (bytes : List ℕ) (status : Status) (text : List ℕ) (found : JobReport) : Type 0 where
+  pub rounds : plan.rounds ≡ 0
+  pub descent : TellsDescent bytes plan.room found
+  pub comes : ComesDown descent.descended status text
+  pub certificate : status ≡ Yes → TellsCertificate bytes text
+
+abbrev pub IsSphereAnswer : Numbers → List ℕ → Status → List ℕ → JobReport → Type 0
+IsSphereAnswer plan bytes status text found = IsObstructed bytes status text found ⊎ IsLedDown plan bytes status text found
+
 abbrev pub IsDone : Job → List ℕ → Status → List ℕ → JobReport → Type 0
 IsDone job.Replay bytes status text found = IsReplayed bytes status text found
 IsDone job.Trace bytes status text found = IsTraceAnswer bytes status text found
 IsDone job.Info bytes status text found = IsInfoAnswer bytes status text found
+IsDone (job.Sphere plan) bytes status text found = IsSphereAnswer plan bytes status text found
+
+-- rounds are asked for, and the complex of the bytes lacks no fact of a sphere: such a one isn't answered yet
+pub record IsUnanswered (plan : Numbers) (bytes : List ℕ) (first : Fault) : Type 0 where
+  pub none : TellsNone bytes
+  pub rounds : plan.rounds ≢ 0
+  pub is_form : first ≡ fault.Form
+
+abbrev pub HasSphereFault : Numbers → List ℕ → Fault → Type 0
+HasSphereFault plan bytes first = (complex_of bytes ≡ Err first) ⊎ IsUnanswered plan bytes first
 
 -- the first fault of the bytes, read as an input of the job
 abbrev pub HasFault : Job → List ℕ → Fault → Type 0
 HasFault job.Replay bytes first = input_of bytes ≡ Err first
 HasFault job.Trace bytes first = (e : TraceFault) × (trace_of bytes ≡ Err e) × (first ≡ of_trace e)
 HasFault job.Info bytes first = complex_of bytes ≡ Err first
+HasFault (job.Sphere plan) bytes first = HasSphereFault plan bytes first
 
 -- BadInput, and the line of this fault
 pub record Refuses (first : Fault) (status : Status) (text : List ℕ) (found : JobReport) : Type 0 where
@@ -177,15 +219,6 @@ AnswerIsOne = (words : List (List ℕ)) (bytes : List ℕ) (s t : Status) (xs ys
 
 -- ---- what a decided answer tells
 
--- the headline of `replay`: the bytes tell a complex and flips, and the flips are legal in order from that complex and end
--- in the boundary of a simplex
-pub record TellsSphere (bytes : List ℕ) : Type 0 where
-  pub short : length bytes ≤ limit_of job.Replay
-  pub start : Space
-  pub flips : List Flip
-  pub input : input_of bytes ≡ Ok (start, flips)
-  pub certificate : SphereCert start flips
-
 -- the bytes tell a trace, each event of which is accepted, and nothing is pending at its end
 pub record RunsClean (bytes : List ℕ) : Type 0 where
   pub short : length bytes ≤ limit_of job.Trace
@@ -221,21 +254,50 @@ IsWritten NoMemory = ⊥
 abbrev pub IsDecided : Status → Type 0
 IsDecided status = (status ≡ Yes) ⊎ (status ≡ No)
 
--- a decided trace reports a core, and the other jobs report nothing
-abbrev pub FitsJob : Job → JobReport → Type 0
-FitsJob job.Replay found = found ≡ report.Nothing
-FitsJob job.Trace found = (last : Core) × (found ≡ report.Trace last)
-FitsJob job.Info found = found ≡ report.Nothing
+-- Yes, No or Undecided
+abbrev pub HasVerdict : Status → Type 0
+HasVerdict status = IsDecided status ⊎ (status ≡ Undecided)
 
--- the verdicts of a job; `info` has no No
+-- a descent is reported whose end is the boundary of a simplex
+pub record ReportsSphere (found : JobReport) : Type 0 where
+  pub descended : DescentView
+  pub reports : found ≡ report.Sphere descended
+  pub boundary : IsBoundary descended.end
+
+-- a descent is reported whose end is none
+pub record ReportsElsewhere (found : JobReport) : Type 0 where
+  pub descended : DescentView
+  pub reports : found ≡ report.Sphere descended
+  pub elsewhere : IsBoundary descended.end → ⊥
+
+-- what `sphere` reports with each verdict
+pub record FitsSphere (status : Status) (found : JobReport) : Type 0 where
+  pub yes : status ≡ Yes → ReportsSphere found
+  pub no : status ≡ No → found ≡ report.Nothing
+  pub undecided : status ≡ Undecided → ReportsElsewhere found
+
+-- a decided trace reports a core, `sphere` a descent where there is no obstacle, and the other jobs report nothing
+abbrev pub FitsJob : Job → Status → JobReport → Type 0
+FitsJob job.Replay status found = found ≡ report.Nothing
+FitsJob job.Trace status found = (last : Core) × (found ≡ report.Trace last)
+FitsJob job.Info status found = found ≡ report.Nothing
+FitsJob (job.Sphere plan) status found = FitsSphere status found
+
+-- Yes or Undecided, and no rounds
+pub record EndsDescent (plan : Numbers) (status : Status) : Type 0 where
+  pub rounds : plan.rounds ≡ 0
+  pub ends : (status ≡ Yes) ⊎ (status ≡ Undecided)
+
+-- the verdicts of a job: `info` has no No, and Undecided is only said of a descent
 abbrev pub MayEnd : Job → Status → Type 0
 MayEnd job.Replay status = IsDecided status
 MayEnd job.Trace status = IsDecided status
 MayEnd job.Info status = status ≡ Yes
+MayEnd (job.Sphere plan) status = (status ≡ No) ⊎ EndsDescent plan status
 
 pub record DecidesJob (j : Job) (status : Status) (found : JobReport) : Type 0 where
   pub decided : MayEnd j status
-  pub fits : FitsJob j found
+  pub fits : FitsJob j status found
 
 pub record IsBad (status : Status) (found : JobReport) : Type 0 where
   pub is_bad : status ≡ BadInput
@@ -249,6 +311,12 @@ pub record IsOfJob (words : List (List ℕ)) (status : Status) (found : JobRepor
   pub job : Job
   pub named : IsJob words job
   pub ends : EndsJob job status found
+
+-- the words ask for `sphere` without rounds
+pub record AsksForDescent (words : List (List ℕ)) : Type 0 where
+  pub plan : Numbers
+  pub named : IsJob words (job.Sphere plan)
+  pub rounds : plan.rounds ≡ 0
 
 -- what an answer says of the words alone
 abbrev pub FitsWords : List (List ℕ) → Status → List ℕ → JobReport → Type 0

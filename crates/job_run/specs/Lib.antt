@@ -2,9 +2,9 @@
 pub mod Texts
 pub mod Faults
 pub mod Readings
-pub mod Verdicts
 pub mod TraceTexts
 pub mod Traced
 pub mod TraceRuns
 pub mod Descriptions
+pub mod Spheres
 pub mod Answers

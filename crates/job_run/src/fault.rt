@@ -31,7 +31,7 @@ pub(crate) enum Fault {
     Count(usize),
     /// A number out of its range.
     Number(usize),
-    /// A certificate of a kind that isn't replayed.
+    /// A complex that nothing keeps from being led to a sphere, where rounds are asked for.
     Form,
     /// Memory ran out.
     Memory,

@@ -1,8 +1,9 @@
 // Reads one complex, and describes it.
 ghost use Rattle.std.specs.Prelude.{◌≡◌, ◌++◌, ◌∷◌, OnOk, IfOk, string_bytes};
 ghost use Rattle.std.specs.List.{flat_map};
+ghost use Rattle.facet_text.specs.Writing.{KeepsLimits};
 ghost use Rattle.line_text.specs.Writing.{set_off};
-ghost use Rattle.job_run.specs.Descriptions.{counted_lines, ridge_line, apart_line, IsClosedLine, IsStrongLine, IsOrientableLine, Describes};
+ghost use Rattle.job_run.specs.Descriptions.{euler_line, counted_lines, ridge_line, apart_line, clash_line, IsClosedLine, IsStrongLine, IsOrientableLine, Describes};
 ghost use Rattle.job_run.specs.Readings.{complex_of, GivesComplex};
 
 use crate::fault::Fault;
@@ -16,7 +17,8 @@ use std::alloc::{AllocError, Global};
 
 /// The complex of an input, behind which only blanks stand.
 pub(crate) fn read_alone(alloc: Global, bytes: &[u8]) -> Result<Complex, Fault>
-    ensures { GivesComplex result (complex_of bytes.now) }
+    ensures read { GivesComplex result (complex_of bytes.now) }
+    ensures limits { IfOk result (λ k. KeepsLimits k) }
 {
     let (complex, place) = read_complex(alloc, bytes, 0)?;
     match next_token(bytes, place) {
@@ -35,6 +37,15 @@ fn write_counts(text: &mut String, counts: &[u64]) -> Result<(), AllocError>
     Ok(())
 }
 
+/// The line of the Euler characteristic.
+pub(crate) fn euler_line(alloc: Global, characteristic: i64) -> Result<String, AllocError>
+    ensures { IfOk result (λ t. string_bytes t ≡ euler_line characteristic) }
+{
+    let mut text = String::from_str(alloc, "euler ")?;
+    write!(text, "{characteristic}\n")?;
+    Ok(text)
+}
+
 // The lines of the dimension, of the numbers of faces, and of the Euler characteristic.
 fn counted_lines(alloc: Global, complex: &Complex) -> Result<String, AllocError>
     ensures { IfOk result (λ t. string_bytes t ≡ counted_lines complex.now) }
@@ -43,13 +54,13 @@ fn counted_lines(alloc: Global, complex: &Complex) -> Result<String, AllocError>
     let dim = complex.dim();
     write!(text, "{dim}\nf")?;
     write_counts(&mut text, &counts(alloc, complex)?)?;
-    let characteristic = euler(alloc, complex)?;
-    write!(text, "\neuler {characteristic}\n")?;
+    text.push('\n')?;
+    text.push_str(&euler_line(alloc, euler(alloc, complex)?)?)?;
     Ok(text)
 }
 
-// The line of a ridge that doesn't lie in two facets.
-fn ridge_line(alloc: Global, ridge: Ridge) -> Result<String, AllocError>
+/// The line of a ridge that doesn't lie in two facets.
+pub(crate) fn ridge_line(alloc: Global, ridge: Ridge) -> Result<String, AllocError>
     ensures { IfOk result (λ t. string_bytes t ≡ ridge_line ridge.face ridge.count) }
 {
     let mut text = String::from_str(alloc, "closed no ridge")?;
@@ -69,8 +80,8 @@ fn closed_line(alloc: Global, complex: &Complex) -> Result<String, AllocError>
     }
 }
 
-// The line of two facets that no chain joins.
-fn apart_line(alloc: Global, apart: Apart) -> Result<String, AllocError>
+/// The line of two facets that no chain joins.
+pub(crate) fn apart_line(alloc: Global, apart: Apart) -> Result<String, AllocError>
     ensures { IfOk result (λ t. string_bytes t ≡ apart_line apart.first apart.other) }
 {
     let mut text = String::from_str(alloc, "strong no")?;
@@ -91,13 +102,20 @@ fn strong_line(alloc: Global, complex: &Complex) -> Result<String, AllocError>
     }
 }
 
+/// The line of facets that have no signs that agree.
+pub(crate) fn clash_line(alloc: Global) -> Result<String, AllocError>
+    ensures { IfOk result (λ t. string_bytes t ≡ clash_line) }
+{
+    String::from_str(alloc, "orientable no\n")
+}
+
 // Whether signs of the facets are opposite at each ridge of two facets.
 fn orientable_line(alloc: Global, complex: &Complex) -> Result<String, AllocError>
     ensures { IfOk result (λ t. IsOrientableLine complex.now.facets (string_bytes t)) }
 {
     match orient(alloc, complex)? {
         Orientation::Oriented(_) => String::from_str(alloc, "orientable yes\n"),
-        Orientation::Clash(_) => String::from_str(alloc, "orientable no\n"),
+        Orientation::Clash(_) => clash_line(alloc),
     }
 }
 

@@ -1,7 +1,10 @@
 // The jobs, from words and bytes to an answer.
 ghost use Rattle.std.specs.Prelude.{◌≡◌, ◌↔◌, ◌⊎◌, ◌≤◌, IfOk, IfSome, MatchOption, Err, length, map, string_bytes};
 ghost use Rattle.std.specs.Io.KnownBytes.{Keeps, Appends, IsAtEnd};
+ghost use Rattle.anneal_plan.specs.Numbers.{Numbers};
+ghost use Rattle.cert_text.specs.Claims.{claim};
 ghost use Rattle.flip_io.specs.Causes.{Rose};
+ghost use Rattle.facet_text.specs.Writing.{KeepsLimits};
 ghost use Rattle.flip_io.specs.Outcomes.{AppendsPrefix};
 ghost use Rattle.job_run.specs.declared.job.Stop.TheVariants.{NoMemory};
 ghost use Rattle.job_run.specs.declared.job.JobReport.TheVariants as report;
@@ -9,19 +12,25 @@ ghost use Rattle.job_run.specs.declared.job.Job.TheVariants as job;
 ghost use Rattle.job_run.specs.declared.job.Job.{Job};
 ghost use Rattle.job_run.specs.declared.fault.Fault.TheVariants as fault;
 ghost use Rattle.job_run.specs.Texts.{usage_line};
-ghost use Rattle.job_run.specs.Answers.{name_of, limit_of, IsJob, NamesNoJob, IsVerdict, Refuses, IsJudged, IsFound, IsAnswer, FitsWords, FitsJob, EndsJob, TellsSphere, RunsClean, TellsReport, TellsFacts, IsWritten, IsDecided, RefusesWords, WritesNothing, ReportsNothing, Answered, BegunWith, status_number};
+ghost use Rattle.job_run.specs.Spheres.{TellsObstacle, TellsCertified, TellsCertificate, TellsDescent, TellsCycle};
+ghost use Rattle.job_run.specs.Answers.{IsOf, limit_of, IsJob, NamesNoJob, IsVerdict, EndsDescent, LeadsDown, Refuses, IsJudged, IsFound, IsAnswer, FitsWords, FitsJob, EndsJob, RunsClean, TellsReport, TellsFacts, IsWritten, IsDecided, HasVerdict, AsksForDescent, RefusesWords, WritesNothing, ReportsNothing, Answered, BegunWith, status_number};
 
 use crate::fault::{Fault, fault_line};
 use crate::info::{description, read_alone};
 use crate::replay::read_input;
-use crate::text::{illegal_text, usage_line, wrong_end_text, yes_text};
+use crate::sphere::{found_text, obstacle_text, undecided_text};
+use crate::text::{illegal_text, shown_text, usage_line, wrong_end_text};
 use crate::trace::run_trace;
-use crate::verdict::{Verdict, replay};
+use anneal_plan::Plan;
+use cert_replay::{Replayed, replay};
+use cert_text::Certificate;
 use complex_core::Complex;
 use flip_io::{Failed, ReadAllFault, Sink, Source, read_all, write_all};
-use flip_rules::Flip;
+use flip_laws::cannot_reach;
+use flip_options::Descended;
+use flip_rules::is_simplex_boundary;
 use flip_world::World;
-use job_words::{JobName, UsageFault, read_words};
+use job_words::{Job as Asked, JobName, UsageFault, read_words};
 use std::alloc::{AllocError, Global};
 use trace_text::read_trace;
 
@@ -31,23 +40,21 @@ enum Job {
     Replay,
     Trace,
     Info,
+    Sphere(Plan),
 }
 
 impl Job {
-    // The job of this name, if it is built.
-    fn of_name(name: JobName) -> Option<Job>
-        ensures { MatchOption result ((j : Job) → name ≡ name_of j → ⊥) (λ j. name ≡ name_of j) }
+    // The job that was asked for, if it is built.
+    fn of_asked(asked: Asked) -> Option<Job>
+        ensures { MatchOption result ((j : Job) → IsOf asked j → ⊥) (IsOf asked) }
     {
-        match name {
+        match asked.name {
             JobName::Replay => Some(Job::Replay),
             JobName::Trace => Some(Job::Trace),
             JobName::Info => Some(Job::Info),
-            JobName::Sphere
-            | JobName::Equiv
-            | JobName::Iso
-            | JobName::Manifold
-            | JobName::Make
-            | JobName::Drill => None,
+            JobName::Sphere => Some(Job::Sphere(asked.plan)),
+            JobName::Equiv | JobName::Iso | JobName::Manifold | JobName::Make | JobName::Drill =>
+                None,
         }
     }
 
@@ -56,7 +63,7 @@ impl Job {
         ensures { IfOk result (λ found. MatchOption found (NamesNoJob (map string_bytes words.now)) (IsJob (map string_bytes words.now))) }
     {
         match read_words(alloc, words) {
-            Ok(asked) => Ok(Job::of_name(asked.name)),
+            Ok(asked) => Ok(Job::of_asked(asked)),
             Err(UsageFault::Memory) => Err(AllocError),
             Err(UsageFault::Words | UsageFault::Name | UsageFault::Product | UsageFault::KindDim) =>
                 Ok(None),
@@ -69,7 +76,7 @@ impl Job {
     {
         match self {
             Job::Replay => 268_435_456,
-            Job::Trace | Job::Info => 4_194_304,
+            Job::Trace | Job::Info | Job::Sphere(_) => 4_194_304,
         }
     }
 }
@@ -120,6 +127,8 @@ pub enum JobReport {
     Nothing,
     /// The world that a trace ends with.
     Trace(World),
+    /// The descent of a complex that nothing keeps from being led to a sphere.
+    Sphere(Descended),
 }
 
 /// What a job ends with.
@@ -160,20 +169,24 @@ fn refuse(alloc: Global, first: Fault) -> Result<Prepared, AllocError>
     Ok(plain(Status::BadInput, fault_line(alloc, first)?))
 }
 
-// Replays flips.
-fn judge_flips(alloc: Global, complex: &mut Complex, flips: &[Flip]) -> Result<Prepared, AllocError>
-    ensures verdict { IfOk result (λ a. IsVerdict complex.old flips.now a.status a.text.items) }
+// Replays a certificate.
+#[tactic(auto, using(crate::proofs::Replays::links_are))]
+fn judge_certificate(
+    alloc: Global,
+    complex: &Complex,
+    certificate: &Certificate,
+) -> Result<Prepared, AllocError>
+    requires { KeepsLimits complex.now }
+    ensures verdict { IfOk result (λ a. IsVerdict complex.now (claim certificate.now) a.status a.text.items) }
     ensures report { IfOk result (λ a. a.report ≡ report.Nothing) }
 {
-    match replay(complex, flips)? {
-        Verdict::Valid => {
-            let facets = complex.facets().len();
-            Ok(plain(Status::Yes, yes_text(alloc, flips.len(), facets)?))
-        }
-        Verdict::Bad(number, illegal) => {
-            Ok(plain(Status::No, illegal_text(alloc, number, illegal)?))
-        }
-        Verdict::WrongEnd => Ok(plain(Status::No, wrong_end_text(alloc)?)),
+    match replay(alloc, complex, certificate)? {
+        Replayed::Valid { flips, facets } => Ok(plain(
+            Status::Yes,
+            shown_text(alloc, certificate, flips, facets)?,
+        )),
+        Replayed::Bad { index, fault } => Ok(plain(Status::No, illegal_text(alloc, index, fault)?)),
+        Replayed::WrongEnd => Ok(plain(Status::No, wrong_end_text(alloc)?)),
     }
 }
 
@@ -182,7 +195,7 @@ fn judge_replay(alloc: Global, bytes: &[u8]) -> Result<Prepared, AllocError>
     ensures judged { IfOk result (λ a. IsJudged job.Replay bytes.now a.status a.text.items a.report) }
 {
     match read_input(alloc, bytes) {
-        Ok((mut complex, flips)) => judge_flips(alloc, &mut complex, &flips),
+        Ok((complex, certificate)) => judge_certificate(alloc, &complex, &certificate),
         Err(fault) => refuse(alloc, fault),
     }
 }
@@ -215,6 +228,43 @@ fn judge_info(alloc: Global, bytes: &[u8]) -> Result<Prepared, AllocError>
     }
 }
 
+// Leads a complex down, and tells whether it ends as the boundary of a simplex.
+fn judge_descent(alloc: Global, complex: Complex, room: u16) -> Result<Prepared, AllocError>
+    requires limits { KeepsLimits complex }
+    requires small { room ≤ 1024 }
+    ensures comes { IfOk result (λ a. LeadsDown complex room a.status a.text.items a.report) }
+{
+    let descended = Descended::of(alloc, complex, room)?;
+    if is_simplex_boundary(descended.end()) {
+        Ok(Prepared {
+            status: Status::Yes,
+            text: found_text(alloc, &descended)?,
+            report: JobReport::Sphere(descended),
+        })
+    } else {
+        Ok(Prepared {
+            status: Status::Undecided,
+            text: undecided_text(alloc, &descended)?,
+            report: JobReport::Sphere(descended),
+        })
+    }
+}
+
+// Tells what keeps the complex of an input from being led to a sphere. Where nothing does, it is led down, but with rounds it is
+// refused.
+fn judge_sphere(alloc: Global, plan: Plan, bytes: &[u8]) -> Result<Prepared, AllocError>
+    ensures judged { IfOk result (λ a. IsJudged (job.Sphere plan) bytes.now a.status a.text.items a.report) }
+{
+    match read_alone(alloc, bytes) {
+        Ok(complex) => match cannot_reach(alloc, &complex)? {
+            Some(obstacle) => Ok(plain(Status::No, obstacle_text(alloc, obstacle)?)),
+            None if plan.rounds() == 0 => judge_descent(alloc, complex, plan.room() as u16),
+            None => refuse(alloc, Fault::Form),
+        },
+        Err(fault) => refuse(alloc, fault),
+    }
+}
+
 // Judges an input of a job.
 fn judge(alloc: Global, job: Job, bytes: &[u8]) -> Result<Prepared, AllocError>
     requires { length bytes.now ≤ limit_of job }
@@ -224,6 +274,7 @@ fn judge(alloc: Global, job: Job, bytes: &[u8]) -> Result<Prepared, AllocError>
         Job::Replay => judge_replay(alloc, bytes),
         Job::Trace => judge_trace(alloc, bytes),
         Job::Info => judge_info(alloc, bytes),
+        Job::Sphere(plan) => judge_sphere(alloc, plan, bytes),
     }
 }
 
@@ -244,7 +295,7 @@ impl From<AllocError> for Stop {
 fn find_answer<S: Source>(alloc: Global, job: Job, source: &mut S) -> Result<Prepared, Stop>
     ensures told { IfOk result (λ a. IfSome (S.left source.old) (λ bytes. IsFound job bytes a.status a.text.items a.report)) }
     ensures ends { IfOk result (λ a. EndsJob job a.status a.report) }
-    ensures taken { IfOk result (λ a. IsDecided a.status → IsAtEnd (S.left source.new)) }
+    ensures taken { IfOk result (λ a. HasVerdict a.status → IsAtEnd (S.left source.new)) }
     ensures fault { result ≡ Err Stop.ReadFault → Rose (S.faults source.old) (S.faults source.new) }
 {
     match read_all(alloc, source, job.limit()) {
@@ -259,7 +310,7 @@ fn find_answer<S: Source>(alloc: Global, job: Job, source: &mut S) -> Result<Pre
 fn prepare<S: Source>(alloc: Global, words: &[String], source: &mut S) -> Result<Prepared, Stop>
     ensures told { IfOk result (λ a. IfSome (S.left source.old) (λ bytes. IsAnswer (map string_bytes words.now) bytes a.status a.text.items a.report)) }
     ensures words { IfOk result (λ a. FitsWords (map string_bytes words.now) a.status a.text.items a.report) }
-    ensures taken { IfOk result (λ a. IsDecided a.status → IsAtEnd (S.left source.new)) }
+    ensures taken { IfOk result (λ a. HasVerdict a.status → IsAtEnd (S.left source.new)) }
     ensures untouched { NamesNoJob (map string_bytes words.now) → source.new ≡ source.old }
     ensures fault { result ≡ Err Stop.ReadFault → Rose (S.faults source.old) (S.faults source.new) }
     ensures named { NamesNoJob (map string_bytes words.now) → result ≡ Err Stop.ReadFault → ⊥ }
@@ -272,13 +323,18 @@ fn prepare<S: Source>(alloc: Global, words: &[String], source: &mut S) -> Result
 
 /// Does the job that the words ask for, from a source to a sink. The whole answer is made in memory before it is written.
 ///
-/// - `replay` reads a complex and a certificate behind it, to the end, of at most 268,435,456 bytes together. A certificate of
-///   a sphere is replayed. One of another kind isn't yet, and is answered with `bad input form`.
+/// - `replay` reads a complex and a certificate behind it, to the end, of at most 268,435,456 bytes together, and judges the
+///   certificate: of a sphere, of an equivalence with another complex, or of a manifold.
 /// - `trace` reads a trace of at most 4,194,304 bytes, and runs its events.
 /// - `info` reads a complex of at most 4,194,304 bytes, behind which only blanks stand, and describes it.
+/// - `sphere` reads such a complex too, and says what keeps it from being led to the boundary of a simplex: the first of four
+///   facts of a sphere that it lacks. A complex that lacks none is led down by legal flips, at each step the best one that leaves
+///   fewer facets. Where it ends as the boundary of a simplex, the flips are printed as a certificate. Until there are rounds
+///   this is done for `--rounds 0` alone, and such a complex is answered with `bad input form` elsewhere.
 ///
-/// They take all options, and use none. Words that ask for another job, or for none, are refused with the usage line. Bytes
-/// that spell no input of the job are answered with their first fault from left to right and its place.
+/// They take all options. `sphere` uses `--rounds` and `--room`, and the others use none. Words that ask for another job, or for
+/// none, are refused with the usage line. Bytes that spell no input of the job are answered with their first fault from left to
+/// right and its place.
 pub fn run_job<S: Source, K: Sink>(
     alloc: Global,
     words: &[String],
@@ -288,9 +344,9 @@ pub fn run_job<S: Source, K: Sink>(
     // What was appended to the sink is the text of the one answer to the words and the bytes, which has this report.
     ensures answer { IsWritten result.status → IfSome (S.left source.old) (λ bytes. Answered (K.written sink.old) (K.written sink.new) (λ text. IsAnswer (map string_bytes words.now) bytes result.status text result.report)) }
 
-    // A Yes to `replay` is exactly that the bytes tell a complex and flips, and that the flips are legal in order from that
-    // complex and end in the boundary of a simplex.
-    ensures yes { IsJob (map string_bytes words.now) job.Replay → IsWritten result.status → IfSome (S.left source.old) (λ bytes. (result.status ≡ Status.Yes) ↔ TellsSphere bytes) }
+    // A Yes to `replay` is exactly that the bytes tell a complex and a certificate, and that the certificate shows what it claims:
+    // for one of a sphere, that its flips are legal in order from that complex and end in the boundary of a simplex.
+    ensures yes { IsJob (map string_bytes words.now) job.Replay → IsWritten result.status → IfSome (S.left source.old) (λ bytes. (result.status ≡ Status.Yes) ↔ TellsCertified bytes) }
 
     // A Yes to `trace` is exactly that the bytes tell a trace, each event of which is accepted, and that nothing is pending
     // at its end.
@@ -307,8 +363,23 @@ pub fn run_job<S: Source, K: Sink>(
     ensures facts { IsJob (map string_bytes words.now) job.Info → result.status ≡ Status.Yes → IfSome (S.left source.old) (λ bytes. Answered (K.written sink.old) (K.written sink.new) (λ text. TellsFacts bytes text)) }
     ensures info { IsJob (map string_bytes words.now) job.Info → result.status ≡ Status.No → ⊥ }
 
-    // At Yes and No nothing of the input is left.
-    ensures taken { IsDecided result.status → IsAtEnd (S.left source.new) }
+    // At No of `sphere` the bytes tell a complex, the text that was appended names the first fact of a sphere that it lacks, and
+    // no list of legal flips leads from it to the boundary of a simplex.
+    ensures sound { (plan : Numbers) → IsJob (map string_bytes words.now) (job.Sphere plan) → result.status ≡ Status.No → IfSome (S.left source.old) (λ bytes. Answered (K.written sink.old) (K.written sink.new) (λ text. TellsObstacle bytes text)) }
+
+    // At Yes of `sphere` the text that was appended is a certificate of the complex of the input, and that complex with this
+    // certificate behind it is an input to which `replay` says Yes.
+    ensures certified { (plan : Numbers) → IsJob (map string_bytes words.now) (job.Sphere plan) → result.status ≡ Status.Yes → IfSome (S.left source.old) (λ bytes. Answered (K.written sink.old) (K.written sink.new) (λ text. TellsCertificate bytes text)) }
+
+    // At Yes and Undecided of `sphere` the descent of the complex of the input is reported: flips that are legal in order from
+    // this complex on its places, and lead to the reported end, on which no legal flip has an index above d/2.
+    ensures descent { (plan : Numbers) → IsJob (map string_bytes words.now) (job.Sphere plan) → EndsDescent plan result.status → IfSome (S.left source.old) (λ bytes. TellsDescent bytes plan.room result.report) }
+
+    // A closed and strongly connected complex of dimension 1 is decided by `sphere` without rounds: it is answered with Yes.
+    ensures circle { AsksForDescent (map string_bytes words.now) → IsWritten result.status → IfSome (S.left source.old) (λ bytes. TellsCycle bytes → result.status ≡ Status.Yes) }
+
+    // At Yes, No and Undecided nothing of the input is left.
+    ensures taken { HasVerdict result.status → IsAtEnd (S.left source.new) }
 
     // Other words are refused with the usage line, and take nothing of the source.
     ensures refused { NamesNoJob (map string_bytes words.now) → RefusesWords result.status }
@@ -323,12 +394,14 @@ pub fn run_job<S: Source, K: Sink>(
     ensures prefix { result.status ≡ Status.WriteFault → IfSome (S.left source.old) (λ bytes. BegunWith (K.written sink.old) (K.written sink.new) (λ status text. IsAnswer (map string_bytes words.now) bytes status text result.report)) }
     ensures nothing { WritesNothing result.status → Keeps (K.written sink.old) (K.written sink.new) }
 
-    ensures decided { result.status ≡ Status.Undecided → ⊥ }
+    // Undecided is only said by `sphere` without rounds.
+    ensures undecided { result.status ≡ Status.Undecided → AsksForDescent (map string_bytes words.now) }
 
-    // A core is reported at Yes and No of `trace`, and where such an answer could not be written.
-    ensures reported { (j : Job) → IsJob (map string_bytes words.now) j → IsDecided result.status → FitsJob j result.report }
+    // A core is reported at Yes and No of `trace`. At Yes of `sphere` a descent is reported whose end is the boundary of a
+    // simplex, and at Undecided one whose end is none. Where such an answer could not be written, its report stands too.
+    ensures reported { (j : Job) → IsJob (map string_bytes words.now) j → HasVerdict result.status → FitsJob j result.status result.report }
     ensures silent { ReportsNothing result.status → result.report ≡ report.Nothing }
-    ensures report { (IsJob (map string_bytes words.now) job.Trace → ⊥) → result.report ≡ report.Nothing }
+    ensures report { (IsJob (map string_bytes words.now) job.Trace → ⊥) → (AsksForDescent (map string_bytes words.now) → ⊥) → result.report ≡ report.Nothing }
 {
     match prepare(alloc, words, source) {
         Ok(

@@ -6,9 +6,9 @@ mod info;
 mod job;
 mod law;
 mod replay;
+mod sphere;
 mod text;
 mod trace;
-mod verdict;
 
 pub use job::{Answer, JobReport, Status, run_job};
 pub use law::answer_is_one;
@@ -17,5 +17,7 @@ pub use law::answer_is_one;
 mod tests;
 #[cfg(test)]
 mod tests_info;
+#[cfg(test)]
+mod tests_sphere;
 #[cfg(test)]
 mod tests_trace;

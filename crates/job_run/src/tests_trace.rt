@@ -24,6 +24,7 @@ fn entries(report: &JobReport) -> Option<usize> {
     match report {
         JobReport::Nothing => None,
         JobReport::Trace(world) => Some(world.journal().entries().len()),
+        JobReport::Sphere(_) => None,
     }
 }
 

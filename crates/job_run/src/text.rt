@@ -3,8 +3,10 @@ ghost use Rattle.std.specs.Prelude.{◌≡◌, ◌<◌, ◌++◌, ◌∷◌, [],
 ghost use Rattle.std.specs.List.{flat_map};
 ghost use Rattle.std.specs.Fmt.{decimal};
 ghost use Rattle.line_text.specs.Writing.{spaced, set_off};
-ghost use Rattle.job_run.specs.Texts.{complex_line, flip_line, reason_name, yes_text, illegal_text, wrong_end_text, usage_line};
+ghost use Rattle.cert_text.specs.Claims.{claim};
+ghost use Rattle.job_run.specs.Texts.{complex_line, flip_line, reason_name, yes_text, manifold_text, shown_text, illegal_text, wrong_end_text, usage_line};
 
+use cert_text::Certificate;
 use complex_core::Complex;
 use facet_text::write_complex;
 use flip_rules::Illegal;
@@ -70,8 +72,8 @@ pub(crate) fn reason_name(reason: Illegal) -> &'static str
     }
 }
 
-/// The answer to flips that show a sphere.
-pub(crate) fn yes_text(alloc: Global, flips: usize, facets: usize) -> Result<String, AllocError>
+// The answer to flips that end as claimed.
+fn yes_text(alloc: Global, flips: u64, facets: u64) -> Result<String, AllocError>
     ensures { IfOk result (λ t. string_bytes t ≡ yes_text flips facets) }
 {
     let mut text = String::from_str(alloc, "yes\n")?;
@@ -80,10 +82,36 @@ pub(crate) fn yes_text(alloc: Global, flips: usize, facets: usize) -> Result<Str
     Ok(text)
 }
 
+// The answer to flips of each vertex that end as claimed.
+fn manifold_text(alloc: Global, vertices: u64, flips: u64) -> Result<String, AllocError>
+    ensures { IfOk result (λ t. string_bytes t ≡ manifold_text vertices flips) }
+{
+    let mut text = String::from_str(alloc, "yes\n")?;
+    write!(text, "vertices {vertices}\n")?;
+    write!(text, "flips {flips}\n")?;
+    Ok(text)
+}
+
+/// The answer to a certificate that shows what it claims: how many flips it has, and how many facets their end has, or for a
+/// manifold how many vertices.
+pub(crate) fn shown_text(
+    alloc: Global,
+    certificate: &Certificate,
+    flips: u64,
+    count: u64,
+) -> Result<String, AllocError>
+    ensures { IfOk result (λ t. string_bytes t ≡ shown_text (claim certificate.now) flips count) }
+{
+    match certificate {
+        Certificate::Sphere(_) | Certificate::Equal { .. } => yes_text(alloc, flips, count),
+        Certificate::Manifold(_) => manifold_text(alloc, count, flips),
+    }
+}
+
 /// The answer to flips of which one is illegal.
 pub(crate) fn illegal_text(
     alloc: Global,
-    number: usize,
+    number: u64,
     reason: Illegal,
 ) -> Result<String, AllocError>
     ensures { IfOk result (λ t. string_bytes t ≡ illegal_text number reason) }

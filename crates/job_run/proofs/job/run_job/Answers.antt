@@ -1,5 +1,5 @@
 use Rattle.std.proofs.Common.{map, string_bytes, rules}
-use Rattle.job_run.proofs.Answering.{answer_is_known, begun_is_known, yes_is_known, clean_is_known, history_is_known, facts_are_known, info_words, refused_words, asking_words, begun_usage}
+use Rattle.job_run.proofs.Answering.{answer_is_known, begun_is_known, yes_is_known, clean_is_known, history_is_known, facts_are_known, obstacle_is_known, certificate_is_known, descent_is_known, circle_is_known, undecided_words, fitting_words, silent_words, info_words, refused_words, asking_words, begun_usage}
 use Rattle.job_run.proofs.job.run_job.Goals as goal
 
 pub returns-in-Ok-write_all-clause-answer : goal.returns-in-Ok-write_all-clause-answer
@@ -31,3 +31,24 @@ returns-in-Ok-write_all-clause-facts g c = λ n e. facts_are_known (g.S.Source.l
 
 pub returns-in-Ok-write_all-clause-info : goal.returns-in-Ok-write_all-clause-info
 returns-in-Ok-write_all-clause-info g c = λ n e. info_words (map string_bytes c.args.words.now) c.in-Ok.field-0.status c.in-Ok.field-0.text.items c.in-Ok.field-0.report (search rules) n e
+
+pub returns-in-Ok-write_all-clause-sound : goal.returns-in-Ok-write_all-clause-sound
+returns-in-Ok-write_all-clause-sound g c = λ plan n e. obstacle_is_known (g.S.Source.left c.args.source.now) (g.K.Sink.written c.args.sink.now) (g.K.Sink.written c.write_all.new.sink) (map string_bytes c.args.words.now) plan c.in-Ok.field-0.status c.in-Ok.field-0.text.items c.in-Ok.field-0.report (search rules) (search rules) n e
+
+pub returns-in-Ok-write_all-clause-certified : goal.returns-in-Ok-write_all-clause-certified
+returns-in-Ok-write_all-clause-certified g c = λ plan n e. certificate_is_known (g.S.Source.left c.args.source.now) (g.K.Sink.written c.args.sink.now) (g.K.Sink.written c.write_all.new.sink) (map string_bytes c.args.words.now) plan c.in-Ok.field-0.status c.in-Ok.field-0.text.items c.in-Ok.field-0.report (search rules) (search rules) n e
+
+pub returns-in-Ok-write_all-clause-descent : goal.returns-in-Ok-write_all-clause-descent
+returns-in-Ok-write_all-clause-descent g c = λ plan n e. descent_is_known (g.S.Source.left c.args.source.now) (map string_bytes c.args.words.now) plan c.in-Ok.field-0.status c.in-Ok.field-0.text.items c.in-Ok.field-0.report (search rules) n e
+
+pub returns-in-Ok-write_all-clause-circle : goal.returns-in-Ok-write_all-clause-circle
+returns-in-Ok-write_all-clause-circle g c = λ n w. circle_is_known (g.S.Source.left c.args.source.now) (map string_bytes c.args.words.now) c.in-Ok.field-0.status c.in-Ok.field-0.text.items c.in-Ok.field-0.report (search rules) n
+
+pub returns-in-Ok-write_all-clause-undecided : goal.returns-in-Ok-write_all-clause-undecided
+returns-in-Ok-write_all-clause-undecided g c = λ e. undecided_words (map string_bytes c.args.words.now) c.in-Ok.field-0.status c.in-Ok.field-0.text.items c.in-Ok.field-0.report (search rules) e
+
+pub returns-in-Ok-write_all-clause-reported : goal.returns-in-Ok-write_all-clause-reported
+returns-in-Ok-write_all-clause-reported g c = λ j n v. fitting_words (map string_bytes c.args.words.now) c.in-Ok.field-0.status c.in-Ok.field-0.text.items c.in-Ok.field-0.report (search rules) j n v
+
+pub returns-in-Ok-write_all-clause-report : goal.returns-in-Ok-write_all-clause-report
+returns-in-Ok-write_all-clause-report g c = λ t o. silent_words (map string_bytes c.args.words.now) c.in-Ok.field-0.status c.in-Ok.field-0.text.items c.in-Ok.field-0.report (search rules) t o
