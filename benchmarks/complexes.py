@@ -42,6 +42,13 @@ class Complex:
         for label in a:
             self.add((a - {label}) | b)
 
+    def subdivide(self, face, label):
+        """The stellar subdivision of a face by a new label."""
+        for facet in self.over(face):
+            self.remove(facet)
+            for gone in face:
+                self.add((facet - {gone}) | {label})
+
     def is_legal(self, a, b):
         if len(a) + len(b) != self.dim + 2 or a & b:
             return False

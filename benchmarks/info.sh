@@ -11,7 +11,7 @@ describe() {
     printf '%s, dimension %s, %s facets: ' "$1" "$2" "$3"
     python3 "$top/benchmarks/measure.py" "$room/input" "$3" facets "$top/crates/bistellar/out/bistellar" info
 }
-describe sphere 2 8000
-describe sphere 3 12000
-describe sphere 6 20000
+describe stacked 2 8000
+describe stacked 3 12000
+describe stacked 6 20000
 describe drawn 6 20000

@@ -1,8 +1,14 @@
-"""Makes a complex with many facets: a sphere grown by stellar subdivisions of drawn facets, or drawn facets.
+"""Makes a complex with many facets.
 
-usage: spheres.py sphere DIM FACETS SEED > input
-       spheres.py drawn DIM FACETS SEED > input
+usage: spheres.py KIND DIM FACETS SEED > input
+
+stacked      a sphere: the boundary of a simplex, grown by stellar subdivisions of drawn facets
+subdivided   a sphere: the same, grown by stellar subdivisions of drawn faces of drawn sizes
+cyclic       a sphere of dimension 3: the boundary of a cyclic polytope, in which any two vertices are joined by an edge
+product      a product of DIM polygons of about equal length, each cell of it cut into DIM! simplices
+drawn        drawn facets
 """
+import itertools
 import random
 import sys
 
@@ -11,7 +17,7 @@ from complexes import Complex
 LABELS = 4096
 
 
-def grown(dim, facets, draw):
+def stacked(dim, facets, draw):
     complex = Complex(dim)
     label = dim + 2
     while len(complex.facets) < facets:
@@ -20,17 +26,64 @@ def grown(dim, facets, draw):
     return complex.text()
 
 
+def subdivided(dim, facets, draw):
+    complex = Complex(dim)
+    label = dim + 2
+    while len(complex.facets) < facets:
+        label += 1
+        facet = draw.choice(complex.facets)
+        complex.subdivide(frozenset(draw.sample(sorted(facet), draw.randint(2, dim + 1))), label)
+    return complex.text()
+
+
+def text(facets):
+    return "[" + ",".join("[" + ",".join(map(str, facet)) + "]" for facet in sorted(facets)) + "]\n"
+
+
+def product(dim, facets, draw):
+    cells = facets
+    for factor in range(2, dim + 1):
+        cells //= factor
+    side = max(3, round(cells ** (1 / dim)))
+    sides = [side] * (dim - 1) + [max(3, round(cells / side ** (dim - 1)))]
+
+    def label(point):
+        number = 0
+        for at, length in zip(point, sides):
+            number = number * length + at % length
+        return number + 1
+
+    made = set()
+    for corner in itertools.product(*map(range, sides)):
+        for order in itertools.permutations(range(dim)):
+            point, path = list(corner), [label(corner)]
+            for axis in order:
+                point[axis] += 1
+                path.append(label(point))
+            made.add(tuple(sorted(path)))
+    return text(made)
+
+
+def cyclic(dim, facets, draw):
+    vertices = 5
+    while vertices * (vertices - 3) // 2 < facets:
+        vertices += 1
+    pairs = [(at, at % vertices + 1) for at in range(1, vertices + 1)]
+    made = {tuple(sorted({*one, *other})) for one, other in itertools.combinations(pairs, 2)}
+    return text({facet for facet in made if len(facet) == 4})
+
+
 def drawn(dim, facets, draw):
-    all = set()
-    while len(all) < facets:
-        all.add(tuple(sorted(draw.sample(range(1, LABELS + 1), dim + 1))))
-    return "[" + ",".join("[" + ",".join(map(str, facet)) + "]" for facet in sorted(all)) + "]\n"
+    made = set()
+    while len(made) < facets:
+        made.add(tuple(sorted(draw.sample(range(1, LABELS + 1), dim + 1))))
+    return text(made)
 
 
 def main():
     kind, dim, facets, seed = sys.argv[1], *map(int, sys.argv[2:])
-    draw = random.Random(seed)
-    sys.stdout.write((grown if kind == "sphere" else drawn)(dim, facets, draw))
+    makers = {"stacked": stacked, "subdivided": subdivided, "cyclic": cyclic, "product": product, "drawn": drawn}
+    sys.stdout.write(makers[kind](dim, facets, random.Random(seed)))
 
 
 main()
