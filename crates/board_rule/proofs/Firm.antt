@@ -138,7 +138,7 @@ module _ (about : About) (s : Board) (journal : List JournalEntry) (now : Space)
         by true is = absurd (ne (sym word ∙ (on_places q is).1))
 
     pub number : e.seq ≡ length (of_worker journal e.worker)
-    number = may.seq ∙ (ap length (done ∙ mine_of_worker about.round (length s.views) journal id f.written.entries) ∙ ap (λ (w : ℕ). length (of_worker journal w)) (sym is_id))
+    number = may.seq ∙ (ap length (done ∙ mine_of_worker about.round about.places (length s.views) journal id f.written.entries) ∙ ap (λ (w : ℕ). length (of_worker journal w)) (sym is_id))
 
     pub firm_commit : (seen : Space) → Firm about (put_home s 0 (Journal b) id (committed v e seen)) (journal ++ e ∷ []) end c
     firm_commit seen =
@@ -149,7 +149,7 @@ module _ (about : About) (s : Board) (journal : List JournalEntry) (now : Space)
         let l = length-set s.views id (Pass u) in
         let who = is_id in
         let w : Written about (set s.words 0 0) (length s.views) (journal ++ e ∷ []) end = written_more about s.words (set s.words 0 0) (length s.views) journal e now end f.written
-        record { round_is = may.round_is; low = omega arith; high = omega arith; some = may.some; few = may.few } number may.faces legal (λ p t. (on_places p t).0) (subst (λ (l : List JournalEntry). length l < 2 ^ 64) is_journal fits) in
+        record { round_is = may.round_is; low = omega arith; high = omega arith; some = may.some; few = may.few; labels = λ p t. (on_places p t).0; faces = may.faces } number may.faces legal (λ p t. (on_places p t).0) (subst (λ (l : List JournalEntry). length l < 2 ^ 64) is_journal fits) in
         record {
           frame = f.frame;
           written = written_as about (set s.words 0 0) (set s.words 0 0) (length s.views) (length (set s.views id (Pass u))) (journal ++ e ∷ []) end (omega arith) w;

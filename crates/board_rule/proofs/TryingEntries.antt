@@ -43,18 +43,18 @@ pub touches_more : (journal : List JournalEntry) (e : JournalEntry) (p : ℕ) �
 touches_more journal e p = omega (arith, touches-append journal (e ∷ []) p)
 
 -- of a pass that was not handed out there are none
-pub mine_none : (journal : List JournalEntry) (round seats w : ℕ) → AllByRecursion (IsEntry round seats) journal → seats ≤ w → mine journal round w ≡ []
-mine_none [] round seats w h le = refl
-mine_none (e ∷ es) round seats w h le =
+pub mine_none : (journal : List JournalEntry) (round places seats w : ℕ) → AllByRecursion (IsEntry round places seats) journal → seats ≤ w → mine journal round w ≡ []
+mine_none [] round places seats w h le = refl
+mine_none (e ∷ es) round places seats w h le =
     let high = h.0.high in
-    ap (λ (b : Bool). cond b (e ∷ mine es round w) (mine es round w)) (is_not round w e (λ z. omega arith)) ∙ mine_none es round seats w h.1 le
+    ap (λ (b : Bool). cond b (e ∷ mine es round w) (mine es round w)) (is_not round w e (λ z. omega arith)) ∙ mine_none es round places seats w h.1 le
 
 -- all entries are of one round
-mine_all : (journal : List JournalEntry) (round seats w : ℕ) → AllByRecursion (IsEntry round seats) journal → mine journal round w ≡ of_worker journal w
-mine_all [] round seats w h = refl
-mine_all (e ∷ es) round seats w h =
+mine_all : (journal : List JournalEntry) (round places seats w : ℕ) → AllByRecursion (IsEntry round places seats) journal → mine journal round w ≡ of_worker journal w
+mine_all [] round places seats w h = refl
+mine_all (e ∷ es) round places seats w h =
     ap (λ (b : Bool). cond (b && eqb e.worker w) (e ∷ mine es round w) (mine es round w)) (eq-eqb e.round round h.0.round_is)
-    ∙ ap (λ (l : List JournalEntry). cond (eqb e.worker w) (e ∷ l) l) (mine_all es round seats w h.1)
+    ∙ ap (λ (l : List JournalEntry). cond (eqb e.worker w) (e ∷ l) l) (mine_all es round places seats w h.1)
 
 -- the number of an entry is how many of them are before it
 number_at : (n : ℕ) (xs ys : List JournalEntry) (e : JournalEntry) → map (λ (d : JournalEntry). d.seq) (xs ++ e ∷ ys) ≡ numbers_from n (xs ++ e ∷ ys) → e.seq ≡ n + length xs
@@ -77,5 +77,5 @@ no_next about words seats journal now w before after e k is by =
     ∙ ap (λ (b : Bool). of_worker before w ++ cond b (e ∷ of_worker after w) (of_worker after w)) (eq-eqb e.worker w by)) in
     let P : List JournalEntry → Type 0 = λ es. map (λ (d : JournalEntry). d.seq) es ≡ numbers_from 0 es in
     let seq : e.seq ≡ 0 + length (of_worker before w) = number_at 0 (of_worker before w) (of_worker after w) e (subst P all (k.serial.numbered w)) in
-    let len : length (mine journal about.round w) ≡ length (of_worker before w ++ e ∷ of_worker after w) = ap length (mine_all journal about.round seats w k.entries ∙ all) in
+    let len : length (mine journal about.round w) ≡ length (of_worker before w ++ e ∷ of_worker after w) = ap length (mine_all journal about.round about.places seats w k.entries ∙ all) in
     omega (arith, len, seq, length-append (of_worker before w) (e ∷ of_worker after w))

@@ -80,7 +80,7 @@ module _ (about : About) (words : List ℕ) (journal : List JournalEntry) (now :
 
   new_past : Past about journal (length more) more (one_more_pass c) (length c.back) [] []
   new_past = record {
-    entries = sym (mine_none journal about.round (length views) (length c.back) written.entries (omega (arith, o.back)));
+    entries = sym (mine_none journal about.round about.places (length views) (length c.back) written.entries (omega (arith, o.back)));
     names = tt;
     notes = noted_none about journal (length c.back);
     marks = tt;

@@ -54,9 +54,9 @@ serial_of about words journal now replays numbered = record {
 
 -- ---- a step that writes no entry
 
-wider_entries : (round seats seats' : ℕ) (journal : List JournalEntry) → seats ≤ seats' → AllByRecursion (IsEntry round seats) journal → AllByRecursion (IsEntry round seats') journal
-wider_entries round seats seats' [] more h = tt
-wider_entries round seats seats' (e ∷ es) more h = let one = h.0 in let high = one.high in (record { round_is = one.round_is; low = one.low; high = omega arith; some = one.some; few = one.few }, wider_entries round seats seats' es more h.1)
+wider_entries : (round places seats seats' : ℕ) (journal : List JournalEntry) → seats ≤ seats' → AllByRecursion (IsEntry round places seats) journal → AllByRecursion (IsEntry round places seats') journal
+wider_entries round places seats seats' [] more h = tt
+wider_entries round places seats seats' (e ∷ es) more h = let one = h.0 in let high = one.high in (record { round_is = one.round_is; low = one.low; high = omega arith; some = one.some; few = one.few; labels = one.labels; faces = one.faces }, wider_entries round places seats seats' es more h.1)
 
 pub written_as : (about : About) (words words' : List ℕ) (seats seats' : ℕ) (journal : List JournalEntry) (now : Space) → seats ≤ seats' → Written about words seats journal now → Written about words' seats' journal now
 written_as about words words' seats seats' journal now more w = record {
@@ -64,7 +64,7 @@ written_as about words words' seats seats' journal now more w = record {
   replays = w.replays;
   complex = w.complex;
   within = w.within;
-  entries = wider_entries about.round seats seats' journal more w.entries;
+  entries = wider_entries about.round about.places seats seats' journal more w.entries;
   short = w.short;
 }
 
@@ -148,15 +148,15 @@ numbered_push journal e seq all other =
     ] refl)
 
 -- all entries are of the board's round
-pub mine_of_worker : (round seats : ℕ) (journal : List JournalEntry) (w : ℕ) → AllByRecursion (IsEntry round seats) journal → mine journal round w ≡ of_worker journal w
-mine_of_worker round seats [] w h = refl
-mine_of_worker round seats (e ∷ es) w h =
-    let rest : mine es round w ≡ of_worker es w = mine_of_worker round seats es w h.1 in
+pub mine_of_worker : (round places seats : ℕ) (journal : List JournalEntry) (w : ℕ) → AllByRecursion (IsEntry round places seats) journal → mine journal round w ≡ of_worker journal w
+mine_of_worker round places seats [] w h = refl
+mine_of_worker round places seats (e ∷ es) w h =
+    let rest : mine es round w ≡ of_worker es w = mine_of_worker round places seats es w h.1 in
     ap (λ (b : Bool). cond (b && nat_eq e.worker w) (e ∷ mine es round w) (mine es round w)) (eq-eqb e.round round h.0.round_is)
     ∙ ap (λ (l : List JournalEntry). cond (nat_eq e.worker w) (e ∷ l) l) rest
 
 -- an entry is written of which the flips are legal now and stand on places
-pub written_more : (about : About) (words words' : List ℕ) (seats : ℕ) (journal : List JournalEntry) (e : JournalEntry) (now end : Space) → Written about words seats journal now → IsEntry about.round seats e → e.seq ≡ length (of_worker journal e.worker)
+pub written_more : (about : About) (words words' : List ℕ) (seats : ℕ) (journal : List JournalEntry) (e : JournalEntry) (now end : Space) → Written about words seats journal now → IsEntry about.round about.places seats e → e.seq ≡ length (of_worker journal e.worker)
     → AllByRecursion OfFaces e.flips → replay now e.flips ≡ Some end → ((p : ℕ) → flips_touch p e.flips ≡ true → p ≤ about.places) → length (journal ++ e ∷ []) < 2 ^ 64
     → Written about words' seats (journal ++ e ∷ []) end
 written_more about words words' seats journal e now end w entry seq faces legal places short =
@@ -166,6 +166,6 @@ written_more about words words' seats journal e now end w entry seq faces legal 
       replays = replays;
       complex = complex_replayed now end e.flips w.complex faces legal;
       within = uses_after now end e.flips about.places w.complex legal places w.within;
-      entries = each_append (IsEntry about.round seats) journal (e ∷ []) w.entries (entry, tt);
+      entries = each_append (IsEntry about.round about.places seats) journal (e ∷ []) w.entries (entry, tt);
       short = short;
     }

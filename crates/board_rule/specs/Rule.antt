@@ -6,11 +6,12 @@ use mathlib.Core.Option.{Option, some}
 use lib.ListN.{get_elem?}
 use Rattle.atomic_table.specs.Table.{State}
 use Rattle.complex_core.specs.Spaces.{Space, IsComplex}
-use Rattle.flip_rules.specs.Flips.{replay}
+use Rattle.flip_rules.specs.Flips.{replay, OfFaces}
 use Rattle.flip_rules.specs.Entries.{JournalEntry}
 use Rattle.flip_rules.specs.Journals.{flat, mine, touches}
 use Rattle.flip_world.specs.Cores.{Core}
 use Rattle.flip_world.specs.Serials.{Serial}
+use Rattle.star_laws.specs.Stars.{flips_touch}
 use Rattle.stars.specs.StarViews.{UsesUpTo}
 use Rattle.board_rule.specs.Items.{item, has_item}
 use Rattle.board_rule.specs.Tries.{Try, last_with, last_note, last_won, last_count, wins, has_won}
@@ -35,20 +36,22 @@ core_of about words journal = record { start = about.start.value; owners = words
 
 -- ---- PART 1: the journal is one legal history, and the core is serial
 
--- an entry of the board's round and of a pass that was handed out, with 1 to 4 flips; there is a seat for main and for each of these passes
-pub record IsEntry (round seats : ℕ) (e : JournalEntry) : Type 0 where
+-- an entry of the board's round and of a pass that was handed out, with 1 to 4 flips, all labels of which are places; there is a seat for main and for each of these passes
+pub record IsEntry (round places seats : ℕ) (e : JournalEntry) : Type 0 where
   pub round_is : e.round ≡ round
   pub low : 0 < e.worker
   pub high : e.worker < seats
   pub some : 0 < length e.flips
   pub few : length e.flips ≤ 4
+  pub labels : (p : ℕ) → flips_touch p e.flips ≡ true → p ≤ places
+  pub faces : AllByRecursion OfFaces e.flips
 
 pub record Written (about : About) (words : List ℕ) (seats : ℕ) (journal : List JournalEntry) (now : Space) : Type 0 where
   pub serial : Serial (core_of about words journal)
   pub replays : replay about.start.value (flat journal) ≡ Some now
   pub complex : IsComplex now
   pub within : UsesUpTo now about.places
-  pub entries : AllByRecursion (IsEntry about.round seats) journal
+  pub entries : AllByRecursion (IsEntry about.round about.places seats) journal
   pub short : length journal < 2 ^ 64
 
 -- ---- PART 2: each number from 1 to the handed-out one belongs to exactly one pass, and word p is w, not 0, exactly where the living pass w has place p

@@ -39,6 +39,6 @@ pub record IsEnd (about : About) (c : Chief) (journal : List JournalEntry) (star
   pub places_are : places_in stars ≡ about.places
   -- the journal is that of a serial core, in which no place is held
   pub serial : Serial (core_of about (replicate (about.places + 1) 0) journal)
-  -- each entry has the round, a worker who was handed out, and 1 to 4 flips
-  pub written : AllByRecursion (IsEntry about.round (length c.back)) journal
+  -- each entry has the round, a worker who was handed out, and 1 to 4 flips, all labels of which are places
+  pub written : AllByRecursion (IsEntry about.round about.places (length c.back)) journal
   pub past : (w : ℕ) (k : Kept) → 0 < w → get_elem? c.back w ≡ some k → IsPast about c journal w k
