@@ -1,0 +1,288 @@
+-- Stars that are taken from their slots and put back.
+use Rattle.std.proofs.Common.{◌≡◌, ◌≢◌, ℕ, zero, suc, eqb, ◌+◌, ◌<◌, ◌≤◌, Bool, true, false, cond, nat_eq, ◌||◌, List, [], ◌∷◌, ◌++◌, length, take, get_or, sym, ◌∙◌, ap, refl, subst, arith}
+use Rattle.std.specs.List.{AllByRecursion, list_any}
+use Rattle.std.specs.List.Sorted.{IsStrictlySortedBy}
+use Rattle.std.specs.Ordering.{nat_cmp}
+use Rattle.std.proofs.lemmas.Bool.Decides.{nat_tests}
+use Rattle.std.proofs.lemmas.List.{length-append, take_more}
+use Rattle.std.proofs.lemmas.Map.Keys.{below_from_sorted}
+use mathlib.Core.Option.{some, some-injective}
+use Rattle.complex_core.specs.Labels.{IsRising, has}
+use Rattle.complex_core.specs.Spaces.{Space}
+use Rattle.complex_core.proofs.Laws.{both_false}
+use Rattle.complex_core.proofs.Sets.{above_tail}
+use Rattle.stars.specs.StarViews.{VertexStar, vertices, IsStarOf}
+use Rattle.board_rule.specs.Items.{item, has_item}
+use Rattle.board_rule.specs.Views.{home, star_in}
+use Rattle.board_rule.specs.declared.data.Home.{Home as HomeOf}
+use Rattle.board_rule.specs.declared.data.Slot.TheVariants.{Home}
+use Rattle.board_rule.specs.declared.view.Hand.{Hand}
+use Rattle.board_rule.proofs.Items.{tested, off, some_of}
+use Rattle.vertex_claims.specs.Passes.{IsSame, know, slot, spare, Puts}
+use Rattle.vertex_claims.specs.declared.pass.Pass.{Pass}
+use Rattle.held_stars.specs.Holding.{Lends, Hosts, with_copies}
+
+-- ---- rising labels
+
+not_equal : (x y : ℕ) → x < y → nat_eq x y ≡ false
+not_equal x y l = grind (arith, nat_tests)
+
+pub positive_at : (xs : List ℕ) (i : ℕ) → IsRising xs → i < length xs → 0 < get_or xs i 0
+positive_at xs i r l = below_from_sorted (0 ∷ xs) 0 (suc i) 0 r (omega arith) (omega (arith, l))
+
+fresh_of : (xs : List ℕ) (i : ℕ) → IsStrictlySortedBy nat_cmp xs → i < length xs → has (take i xs) (get_or xs i 0) ≡ false
+fresh_of [] i s l = absurd (omega arith)
+fresh_of (y ∷ ys) zero s l = refl
+fresh_of (y ∷ ys) (suc i) s l =
+    both_false (not_equal y (get_or ys i 0) (below_from_sorted (y ∷ ys) 0 (suc i) 0 s (omega arith) l)) (fresh_of ys i (above_tail nat_cmp y ys s) (omega (arith, l)))
+
+-- a label isn't among those before it
+pub fresh_at : (xs : List ℕ) (i : ℕ) → IsRising xs → i < length xs → has (take i xs) (get_or xs i 0) ≡ false
+fresh_at xs i r l = fresh_of xs i (above_tail nat_cmp 0 xs r) l
+
+-- ---- one exchange
+
+-- the slot of p gets a star, and so other places are lent
+pub exchanged : (a b : Pass) (k : Space) (lent more : List ℕ) (p : ℕ) (star : VertexStar) → know b ≡ know a → ((x : HomeOf) → slot a p ≡ some (Home x) → Puts a b p (some (Home (home star x.version))))
+    → has_item (know a).items p ≡ true → (has more p ≡ false → star ≡ star_in k p) → ((q : ℕ) → q ≢ p → has more q ≡ false → has lent q ≡ false) → Lends a k lent → Lends b k more
+exchanged a b k lent more p star same puts held here else lends q x at =
+    let old : item (know a).items q ≡ some x = ap (λ (h : Hand). item h.items q) (sym same) ∙ at in
+    let l = lends q x old in
+    let xp = some_of (know a).items p held in
+    let lp = lends p xp.0 xp.1 in
+    let put : slot b q ≡ cond (eqb p q) (some (Home (home star xp.0.version))) (slot a q) = puts (home lp.0 xp.0.version) lp.1 q in
+    tested p q (λ t. slot b q ≡ cond t (some (Home (home star xp.0.version))) (slot a q) → (s : VertexStar) × (slot b q ≡ some (Home (home s x.version))) × (has more q ≡ false → s ≡ star_in k q))
+    (λ e h. let v : xp.0 ≡ x = some-injective xp.0 x (sym xp.1 ∙ (ap (λ (n : ℕ). item (know a).items n) e ∙ old)) in
+    (star, h ∙ ap (λ (y : HomeOf). some (Home (home star y.version))) v, λ f. here (ap (λ (n : ℕ). has more n) e ∙ f) ∙ ap (star_in k) e))
+    (λ ne h. (l.0, h ∙ l.1, λ f. l.2 (else q (λ e. ne (sym e)) f)))
+    put
+
+pub hosts_lend : (a : Pass) (k : Space) → Hosts a k → Lends a k []
+hosts_lend a k h q x at = (star_in k q, h q x at, λ _. refl)
+
+pub lend_hosts : (a : Pass) (k : Space) → Lends a k [] → Hosts a k
+lend_hosts a k h q x at = let l = h q x at in l.1 ∙ ap (λ (s : VertexStar). some (Home (home s x.version))) (l.2 refl)
+
+pub is_star : (k : Space) (s : VertexStar) → IsStarOf k s → s ≡ star_in k s.vertex
+is_star k s h = λ i. record { vertex = s.vertex; dim = h.dim i; rows = h.rows i }
+
+star_is : (k : Space) (p : ℕ) (s : VertexStar) → s ≡ star_in k p → IsStarOf k s
+star_is k p s e = subst (IsStarOf k) (sym e) record { dim = refl; rows = refl }
+
+pub has_snoc : (xs : List ℕ) (y q : ℕ) → has (xs ++ y ∷ []) q ≡ (has xs q || nat_eq y q)
+has_snoc [] y q = or_false (nat_eq y q)
+  where
+    or_false : (b : Bool) → (b || false) ≡ b
+    or_false true = refl
+    or_false false = refl
+has_snoc (x ∷ xs) y q = ap (λ (b : Bool). nat_eq x q || b) (has_snoc xs y q) ∙ or_assoc (nat_eq x q) (has xs q) (nat_eq y q)
+  where
+    or_assoc : (a b c : Bool) → (a || (b || c)) ≡ ((a || b) || c)
+    or_assoc true b c = refl
+    or_assoc false b c = refl
+
+pub vertices_snoc : (near : List VertexStar) (s : VertexStar) → vertices (near ++ s ∷ []) ≡ vertices near ++ s.vertex ∷ []
+vertices_snoc [] s = refl
+vertices_snoc (n ∷ near) s = ap (λ (l : List ℕ). n.vertex ∷ l) (vertices_snoc near s)
+
+pub each_snoc : {X : Type 0} (P : X → Type 0) (xs : List X) (y : X) → AllByRecursion P xs → P y → AllByRecursion P (xs ++ y ∷ [])
+each_snoc P [] y h p = (p, tt)
+each_snoc P (x ∷ xs) y h p = (h.0, each_snoc P xs y h.1 p)
+
+pub each_front : {X : Type 0} (P : X → Type 0) (xs : List X) (y : X) → AllByRecursion P (xs ++ y ∷ []) → AllByRecursion P xs × P y
+each_front P [] y h = (tt, h.0)
+each_front P (x ∷ xs) y h = let r : AllByRecursion P xs × P y = each_front P xs y h.1 in ((h.0, r.0), r.1)
+
+-- ---- the loops
+
+-- the stars of these labels were lent
+pub record Lending (a b : Pass) (front : List ℕ) (near : List VertexStar) : Type 0 where
+  pub same : IsSame a b
+  pub known : know b ≡ know a
+  pub spare_is : spare b ≡ spare a
+  pub lent : (k : Space) → Hosts a k → Lends b k front
+  pub stars : (k : Space) → Hosts a k → AllByRecursion (IsStarOf k) near
+  pub vertices_are : vertices near ≡ front
+
+-- these are still lent
+pub record Returning (a b : Pass) (before near : List VertexStar) : Type 0 where
+  pub same : IsSame a b
+  pub known : know b ≡ know a
+  pub spare_is : spare b ≡ spare a
+  pub lent : (k : Space) → Lends a k (vertices before) → AllByRecursion (IsStarOf k) before → Lends b k (vertices near)
+  pub stars : (k : Space) → Lends a k (vertices before) → AllByRecursion (IsStarOf k) before → AllByRecursion (IsStarOf k) near
+  pub held : (q : ℕ) → has (vertices near) q ≡ true → has_item (know b).items q ≡ true
+
+pub same_passes : (a b c : Pass) → IsSame a b → IsSame b c → IsSame a c
+same_passes a b c f g = record { table = g.table ∙ f.table; worker = g.worker ∙ f.worker; places = g.places ∙ f.places; limit = g.limit ∙ f.limit }
+
+-- the star of one more label is lent
+pub lending_more : (a b c : Pass) (front : List ℕ) (near : List VertexStar) (p : ℕ) (out star : VertexStar) → Lending a b front near → IsSame b c → know c ≡ know b → spare c ≡ spare b
+    → ((x : HomeOf) → slot b p ≡ some (Home x) → out ≡ x.star) → ((x : HomeOf) → slot b p ≡ some (Home x) → Puts b c p (some (Home (home star x.version))))
+    → has_item (know a).items p ≡ true → has front p ≡ false → (k : Space) → Hosts a k → Lending a c (front ++ p ∷ []) (near ++ out ∷ [])
+lending_more a b c front near p out star l same known spares outs puts held fresh k0 hosts0 =
+    let held_b : has_item (know b).items p ≡ true = ap (λ (h : Hand). has_item h.items p) l.known ∙ held in
+    let xp = some_of (know b).items p held_b in
+    let out_is : (k : Space) → Hosts a k → out ≡ star_in k p = λ k hosts. let lp = l.lent k hosts p xp.0 xp.1 in outs (home lp.0 xp.0.version) lp.1 ∙ lp.2 fresh in
+    record {
+      same = same_passes a b c l.same same;
+      known = known ∙ l.known;
+      spare_is = spares ∙ l.spare_is;
+      lent = λ k hosts. exchanged b c k front (front ++ p ∷ []) p star known puts held_b
+          (λ f. off (sym f ∙ (has_snoc front p p ∙ last_true (has front p) (nat_eq p p) (equal p))))
+          (λ q ne f. first_false (has front q) (nat_eq p q) (sym (has_snoc front p q) ∙ f)) (l.lent k hosts);
+      stars = λ k hosts. each_snoc (IsStarOf k) near out (l.stars k hosts) (star_is k p out (out_is k hosts));
+      vertices_are = vertices_snoc near out ∙ (λ i. l.vertices_are i ++ (ap (λ (s : VertexStar). s.vertex) (out_is k0 hosts0)) i ∷ []);
+    }
+  where
+    equal : (n : ℕ) → nat_eq n n ≡ true
+    equal n = grind (arith, nat_tests)
+
+    last_true : (a b : Bool) → b ≡ true → (a || b) ≡ true
+    last_true true b h = refl
+    last_true false b h = h
+
+    first_false : (a b : Bool) → (a || b) ≡ false → a ≡ false
+    first_false true b h = h
+    first_false false b h = refl
+
+-- one lent star is put back
+pub returning_more : (a b c : Pass) (before front : List VertexStar) (star : VertexStar) → Returning a b before (front ++ star ∷ []) → IsSame b c → know c ≡ know b → spare c ≡ spare b
+    → ((x : HomeOf) → slot b star.vertex ≡ some (Home x) → Puts b c star.vertex (some (Home (home star x.version)))) → Returning a c before front
+returning_more a b c before front star l same known spares puts =
+    let has_now : (q : ℕ) → has (vertices (front ++ star ∷ [])) q ≡ (has (vertices front) q || nat_eq star.vertex q) = λ q. ap (λ (vs : List ℕ). has vs q) (vertices_snoc front star) ∙ has_snoc (vertices front) star.vertex q in
+    let held_b : has_item (know b).items star.vertex ≡ true = l.held star.vertex (has_now star.vertex ∙ last_true (has (vertices front) star.vertex) (nat_eq star.vertex star.vertex) (equal star.vertex)) in
+    record {
+      same = same_passes a b c l.same same;
+      known = known ∙ l.known;
+      spare_is = spares ∙ l.spare_is;
+      lent = λ k lends stars. exchanged b c k (vertices (front ++ star ∷ [])) (vertices front) star.vertex star known puts held_b
+          (λ _. is_star k star (each_front (IsStarOf k) front star (l.stars k lends stars)).1)
+          (λ q ne f. has_now q ∙ both_false f (apart star.vertex q (λ e. ne (sym e)))) (l.lent k lends stars);
+      stars = λ k lends stars. (each_front (IsStarOf k) front star (l.stars k lends stars)).0;
+      held = λ q h. ap (λ (v : Hand). has_item v.items q) known ∙ l.held q (has_now q ∙ first_true (has (vertices front) q) (nat_eq star.vertex q) h);
+    }
+  where
+    equal : (n : ℕ) → nat_eq n n ≡ true
+    equal n = grind (arith, nat_tests)
+
+    apart : (m n : ℕ) → m ≢ n → nat_eq m n ≡ false
+    apart m n ne = grind (arith, nat_tests)
+
+    last_true : (a b : Bool) → b ≡ true → (a || b) ≡ true
+    last_true true b h = refl
+    last_true false b h = h
+
+    first_true : (a b : Bool) → a ≡ true → (a || b) ≡ true
+    first_true true b h = refl
+    first_true false b h = off h
+
+-- the star of a place that is lent no more has a slot
+pub has_slot : (a : Pass) (k : Space) (lent : List ℕ) (p : ℕ) → Lends a k lent → has_item (know a).items p ≡ true → (x : HomeOf) × (slot a p ≡ some (Home x))
+has_slot a k lent p l held = let xp = some_of (know a).items p held in let lp = l p xp.0 xp.1 in (home lp.0 xp.0.version, lp.1)
+
+pub lent_none : (a : Pass) → Lending a a [] []
+lent_none a = record {
+  same = record { table = refl; worker = refl; places = refl; limit = refl };
+  known = refl;
+  spare_is = refl;
+  lent = λ k hosts. hosts_lend a k hosts;
+  stars = λ k hosts. tt;
+  vertices_are = refl;
+}
+
+-- the k-th of some labels is one of them
+pub has_here : (xs : List ℕ) (i : ℕ) → i < length xs → has xs (get_or xs i 0) ≡ true
+has_here [] i l = absurd (omega arith)
+has_here (y ∷ ys) zero l = first (nat_eq y y) (has ys y) (equal y)
+  where
+    equal : (n : ℕ) → nat_eq n n ≡ true
+    equal n = grind (arith, nat_tests)
+
+    first : (a b : Bool) → a ≡ true → (a || b) ≡ true
+    first true b h = refl
+    first false b h = off h
+has_here (y ∷ ys) (suc i) l = last (nat_eq y (get_or ys i 0)) (has ys (get_or ys i 0)) (has_here ys i (omega (arith, l)))
+  where
+    last : (a b : Bool) → b ≡ true → (a || b) ≡ true
+    last true b h = refl
+    last false b h = h
+
+-- ---- copies
+
+pub any_vertex : (near : List VertexStar) (x : ℕ) → list_any (λ s. nat_eq s.vertex x) near ≡ has (vertices near) x
+any_vertex [] x = refl
+any_vertex (s ∷ near) x = ap (λ (b : Bool). nat_eq s.vertex x || b) (any_vertex near x)
+
+pub has_one : (copies : List VertexStar) (s : VertexStar) (b : Bool) → b ≡ list_any (λ (t : VertexStar). nat_eq t.vertex s.vertex) copies → b ≡ true → copies ≡ with_copies copies (s ∷ [])
+has_one copies s b is h = sym (ap (λ (t : Bool). cond t copies (copies ++ s ∷ [])) (sym (any_vertex copies s.vertex) ∙ (sym is ∙ h)))
+
+pub has_none : (copies : List VertexStar) (s : VertexStar) (b : Bool) → b ≡ list_any (λ (t : VertexStar). nat_eq t.vertex s.vertex) copies → b ≡ false → copies ++ s ∷ [] ≡ with_copies copies (s ∷ [])
+has_none copies s b is h = sym (ap (λ (t : Bool). cond t copies (copies ++ s ∷ [])) (sym (any_vertex copies s.vertex) ∙ (sym is ∙ h)))
+
+pub copies_snoc : (copies near : List VertexStar) (s : VertexStar) → with_copies copies (near ++ s ∷ []) ≡ with_copies (with_copies copies near) (s ∷ [])
+copies_snoc copies [] s = refl
+copies_snoc copies (n ∷ near) s = copies_snoc (cond (has (vertices copies) n.vertex) copies (copies ++ n ∷ [])) near s
+
+pub copies_long : (copies : List VertexStar) (s : VertexStar) → length (with_copies copies (s ∷ [])) ≤ length copies + 1
+copies_long copies s = by (has (vertices copies) s.vertex)
+  where
+    by : (b : Bool) → length (cond b copies (copies ++ s ∷ [])) ≤ length copies + 1
+    by true = omega arith
+    by false = simp length-append (omega arith)
+
+-- the place of the last lent star is held
+pub last_held : (a b : Pass) (before near front : List VertexStar) (star : VertexStar) (p : ℕ) → Returning a b before near → near ≡ front ++ star ∷ [] → p ≡ star.vertex → has_item (know b).items p ≡ true
+last_held a b before near front star p l is at =
+    l.held p (ap (λ (ns : List VertexStar). has (vertices ns) p) is ∙ (ap (λ (vs : List ℕ). has vs p) (vertices_snoc front star) ∙ (has_snoc (vertices front) star.vertex p ∙ last (has (vertices front) p) (nat_eq star.vertex p) (equal star.vertex p (sym at)))))
+  where
+    equal : (m n : ℕ) → m ≡ n → nat_eq m n ≡ true
+    equal m n e = grind (arith, nat_tests)
+
+    last : (a b : Bool) → b ≡ true → (a || b) ≡ true
+    last true b h = refl
+    last false b h = h
+
+pub returning_next : (a b c : Pass) (before near front : List VertexStar) (star : VertexStar) (p : ℕ) → Returning a b before near → near ≡ front ++ star ∷ [] → p ≡ star.vertex → IsSame b c → know c ≡ know b → spare c ≡ spare b
+    → ((x : HomeOf) → slot b p ≡ some (Home x) → Puts b c p (some (Home (home star x.version)))) → Returning a c before front
+returning_next a b c before near front star p l is at same known spares puts =
+    returning_more a b c before front star (subst (λ (ns : List VertexStar). Returning a b before ns) is l) same known spares
+    (subst (λ (n : ℕ). (x : HomeOf) → slot b n ≡ some (Home x) → Puts b c n (some (Home (home star x.version)))) at puts)
+
+pub return_none : (a : Pass) (near : List VertexStar) → ((q : ℕ) → has (vertices near) q ≡ true → has_item (know a).items q ≡ true) → Returning a a near near
+return_none a near held = record {
+  same = record { table = refl; worker = refl; places = refl; limit = refl };
+  known = refl;
+  spare_is = refl;
+  lent = λ k lends stars. lends;
+  stars = λ k lends stars. stars;
+  held = held;
+}
+
+nil_of : (xs ys : List VertexStar) → xs ≡ ys ++ [] → ys ≡ [] → xs ≡ []
+nil_of xs ys e f = e ∙ ap (λ (zs : List VertexStar). zs ++ []) f
+
+pub returned : (a b : Pass) (before near : List VertexStar) → Returning a b before near → near ≡ [] → (k : Space) → Lends a k (vertices before) → AllByRecursion (IsStarOf k) before → Hosts b k
+returned a b before near l is k lends stars = lend_hosts b k (subst (λ (ns : List VertexStar). Lends b k (vertices ns)) is (l.lent k lends stars))
+
+pub lent_all : (a b : Pass) (labels : List ℕ) (i : ℕ) (near : List VertexStar) → Lending a b (take i labels) near → take i labels ≡ labels → Lending a b labels near
+lent_all a b labels i near l e = subst (λ (front : List ℕ). Lending a b front near) e l
+
+pub no_copies : (a : List VertexStar) → a ≡ with_copies a []
+no_copies a = refl
+
+pub copies_next : (was near now next : List VertexStar) (i : ℕ) (s : VertexStar) → i < length near → now ≡ with_copies was (take i near) → next ≡ with_copies now (s ∷ []) → s ≡ get_or near i s → next ≡ with_copies was (take (i + 1) near)
+copies_next was near now next i s l e f at =
+    f ∙ (ap (λ (ns : List VertexStar). with_copies ns (s ∷ [])) e ∙ (sym (copies_snoc was (take i near) s) ∙ ap (with_copies was) (sym (take_more near i s l ∙ ap (λ (t : VertexStar). take i near ++ t ∷ []) (sym at)))))
+
+pub kept_there : (copies shown : List VertexStar) (s : VertexStar) (p : ℕ) (b : Bool) → shown ≡ copies → p ≡ s.vertex → b ≡ list_any (λ (t : VertexStar). nat_eq t.vertex p) shown → b ≡ true → copies ≡ with_copies copies (s ∷ [])
+kept_there copies shown s p b is at e h = has_one copies s b (e ∙ (λ i. list_any (λ (t : VertexStar). nat_eq t.vertex (at i)) (is i))) h
+
+pub kept_here : (copies shown now : List VertexStar) (s t : VertexStar) (p : ℕ) (b : Bool) → shown ≡ copies → p ≡ s.vertex → b ≡ list_any (λ (t : VertexStar). nat_eq t.vertex p) shown → b ≡ false → now ≡ copies ++ t ∷ [] → t ≡ s → now ≡ with_copies copies (s ∷ [])
+kept_here copies shown now s t p b is at e h put same = put ∙ (ap (λ (u : VertexStar). copies ++ u ∷ []) same ∙ has_none copies s b (e ∙ (λ i. list_any (λ (u : VertexStar). nat_eq u.vertex (at i)) (is i))) h)
+
+pub take_all : (xs : List ℕ) (i : ℕ) → length xs ≤ i → take i xs ≡ xs
+take_all [] zero l = refl
+take_all [] (suc i) l = refl
+take_all (x ∷ xs) zero l = absurd (omega (arith, l))
+take_all (x ∷ xs) (suc i) l = ap (λ (ys : List ℕ). x ∷ ys) (take_all xs i (omega (arith, l)))

@@ -1,0 +1,53 @@
+use Rattle.std.proofs.Common.{◌∙◌, List, ℕ, sym, ap, get_or, take, arith}
+use Rattle.std.proofs.lemmas.List.{take_more}
+use Rattle.complex_core.specs.Labels.{has}
+use Rattle.vertex_claims.specs.Passes.{know}
+use Rattle.held_stars.proofs.LentStars.{positive_at, has_here, same_passes, take_all}
+use Rattle.held_stars.proofs.Claims.{held_more}
+use Rattle.held_stars.proofs.claiming.claim_labels.Goals as goal
+
+pub claim_label-requires-clause-label : goal.claim_label-requires-clause-label
+claim_label-requires-clause-label g c =
+    let labels = c.args.labels.now in
+    let i = c.loop-label.label-index in
+    (positive_at labels i c.requires.labels.rising c.loop-label-test.true, c.requires.places (get_or labels i 0) (has_here labels i c.loop-label-test.true))
+
+pub claim_label-requires-clause-going : goal.claim_label-requires-clause-going
+claim_label-requires-clause-going g c =
+    let r = c.requires.going in
+    let i = c.loop-label.invariant.6 r.0 r.1 r.2 r.4 r.3 in
+    (r.0, i.0, i.1, i.2)
+
+pub returns-in-Err-clause-ends : goal.returns-in-Err-clause-ends
+returns-in-Err-clause-ends g c = λ s now going labels made.
+    let i = c.loop-label.invariant.6 s now going labels made in
+    c.in-Err.ensures.ends s i.0 i.1 (labels (get_or c.args.labels.now c.loop-label.label-index 0) (has_here c.args.labels.now c.loop-label.label-index c.loop-label-test.true)) i.2
+
+pub loop-label-preserved : goal.loop-label-preserved
+loop-label-preserved g c =
+    let labels = c.args.labels.now in
+    let i = c.loop-label.label-index in
+    let label = get_or labels i 0 in
+    let inv = c.loop-label.invariant in
+    let e = c.in_default.ensures in
+    let longer = inv.4 in
+    let more = e.hold.3 in
+    let later = inv.7 in (
+      same_passes c.args.pass.now c.loop-label.pass c.claim_label.new.pass inv.0 e.same,
+      e.hold.0 ∙ inv.1,
+      e.hold.1 ∙ inv.2,
+      e.hold.2,
+      omega (arith, longer, more),
+      (λ q h. held_more (know c.loop-label.pass).items (know c.claim_label.new.pass).items (take i labels) label e.held inv.5 e.label q (ap (λ (l : List ℕ). has l q) (sym (take_more labels i 0 c.loop-label-test.true)) ∙ h)),
+      (λ s now going all made.
+          let j = inv.6 s now going all made in
+          let k = e.going s j.0 j.1 (all label (has_here labels i c.loop-label-test.true)) j.2 in
+          (k.0, k.1, k.2, k.3 ∙ j.3)),
+      omega (arith, later, e.later),
+      e.kept.0 ∙ inv.8,
+      e.kept.1 ∙ inv.9,
+      e.kept.2 ∙ inv.10,
+    )
+
+pub returns-clause-held : goal.returns-clause-held
+returns-clause-held g c = λ q h. c.loop-label.invariant.5 q (ap (λ (l : List ℕ). has l q) (take_all c.args.labels.now c.loop-label.label-index c.loop-label-test.false) ∙ h)

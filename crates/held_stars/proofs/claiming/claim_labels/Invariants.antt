@@ -1,0 +1,24 @@
+use Rattle.std.proofs.Common.{◌≡◌, ◌≤◌, ◌+◌, ℕ, take, length, true}
+use Rattle.complex_core.specs.Labels.{has}
+use Rattle.complex_core.specs.Spaces.{Space}
+use Rattle.board_rule.specs.Items.{has_item}
+use Rattle.board_rule.specs.Views.{star_in}
+use Rattle.star_laws.specs.Stars.{flips_touch}
+use Rattle.vertex_claims.specs.Passes.{IsSame, know}
+use Rattle.held_stars.specs.Holding.{Story, Going, Made, Roomy}
+use Rattle.held_stars.proofs.claiming.claim_labels.Given as goal
+
+abbrev pub invariant-loop-label : goal.invariant-loop-label
+invariant-loop-label g l =
+    IsSame l.fn.pass l.pass
+    × (l.hold.flips.items ≡ l.fn.hold.flips.items)
+    × (l.hold.copies.items ≡ l.fn.hold.copies.items)
+    × Roomy l.hold
+    × (length l.hold.places.items ≤ length l.fn.hold.places.items + l.label-index)
+    × ((q : ℕ) → has (take l.label-index l.labels) q ≡ true → has_item (know l.pass).items q ≡ true)
+    × ((s : Story) (now : Space) → Going s (know l.fn.pass) → ((q : ℕ) → has l.labels q ≡ true → flips_touch q s.flips ≡ true) → Made l.fn.pass l.fn.hold now
+    → (m : Space) × Going s (know l.pass) × Made l.pass l.hold m × (star_in m s.place ≡ star_in now s.place))
+    × (g.G.Gate.quits l.fn.gate ≤ g.G.Gate.quits l.gate)
+    × ((know l.pass).worker ≡ (know l.fn.pass).worker)
+    × ((know l.pass).start ≡ (know l.fn.pass).start)
+    × ((know l.pass).places ≡ (know l.fn.pass).places)

@@ -1,0 +1,96 @@
+//! Claims of the labels of a flip.
+
+ghost use Rattle.std.specs.Prelude.{◌≡◌, ◌+◌, ◌<◌, ◌≤◌, ℕ, true, false, IfErr, OnOk, OnErr, vec_capacity, length};
+ghost use Rattle.complex_core.specs.Labels.{IsFace, has};
+ghost use Rattle.complex_core.specs.Spaces.{Space};
+ghost use Rattle.star_laws.specs.Stars.{flips_touch};
+ghost use Rattle.board_rule.specs.Items.{has_item};
+ghost use Rattle.board_rule.specs.Views.{star_in};
+ghost use Rattle.vertex_claims.specs.Passes.{IsOf, IsSame, know, places_on};
+ghost use Rattle.held_stars.specs.Holding.{Story, Going, Made, Ends, Roomy};
+
+use crate::gate::{Gate, Point, Step};
+use crate::hold::Hold;
+use crate::stopped::Stopped;
+use vertex_claims::{Board, Claimed, Pass};
+
+// Asks the gate at a point.
+fn ask<G: Gate>(gate: &mut G, point: Point) -> Result<(), Stopped>
+    ensures later { G.quits gate.old ≤ G.quits gate.new }
+    ensures quit { IfErr result (λ answer. (answer ≡ Stopped.Quit) × (G.quits gate.old < G.quits gate.new)) }
+{
+    match gate.at(point) {
+        Step::Go => Ok(()),
+        Step::Quit => Err(Stopped::Quit),
+    }
+}
+
+// Claims one label, unless it is held already.
+fn claim_label<G: Gate>(
+    board: &Board,
+    pass: &mut Pass,
+    hold: &mut Hold,
+    gate: &mut G,
+    label: u16,
+) -> Result<(), Stopped>
+    requires board { IsOf pass.old board.now }
+    requires label { (0 < label) × (label ≤ places_on board.now) }
+    requires going { (s : Story) × (now : Space) × Going s (know pass.old) × Made pass.old hold.old now }
+    requires room { Roomy hold.old × (length hold.old.places.items < 33) }
+    ensures same { IsSame pass.old pass.new }
+    ensures kept { ((know pass.new).worker ≡ (know pass.old).worker) × ((know pass.new).start ≡ (know pass.old).start) × ((know pass.new).places ≡ (know pass.old).places) }
+    ensures hold { (hold.new.flips.items ≡ hold.old.flips.items) × (hold.new.copies.items ≡ hold.old.copies.items) × Roomy hold.new × (length hold.new.places.items ≤ length hold.old.places.items + 1) }
+    ensures held { (q : ℕ) → has_item (know pass.old).items q ≡ true → has_item (know pass.new).items q ≡ true }
+    ensures label { OnOk result (has_item (know pass.new).items label ≡ true) }
+    ensures going { (s : Story) (now : Space) → Going s (know pass.old) → flips_touch label s.flips ≡ true → Made pass.old hold.old now →
+        OnOk result ((m : Space) × Going s (know pass.new) × Made pass.new hold.new m × (star_in m s.place ≡ star_in now s.place)) }
+    ensures ends { (s : Story) (now : Space) → Going s (know pass.old) → flips_touch label s.flips ≡ true → Made pass.old hold.old now → IfErr result (Ends s pass.new hold.new) }
+    ensures later { G.quits gate.old ≤ G.quits gate.new }
+    ensures quit { IfErr result (λ answer. answer ≡ Stopped.Quit → G.quits gate.old < G.quits gate.new) }
+{
+    if pass.holds(label) {
+        return Ok(());
+    }
+    match pass.claim(board, label) {
+        Err(Claimed { place, owner }) => Err(Stopped::Busy { place, owner }),
+        Ok(()) => {
+            hold.places.push_reserved(label);
+            ask(gate, Point::Claimed)
+        }
+    }
+}
+
+/// Claims those of some labels that aren't held yet, in order, and asks the gate after each.
+///
+/// # Errors
+/// `Busy` at the first label that another worker held, and `Quit` where the gate ends the try. The
+/// labels before it are held.
+pub fn claim_labels<G: Gate>(
+    board: &Board,
+    pass: &mut Pass,
+    hold: &mut Hold,
+    gate: &mut G,
+    labels: &[u16],
+) -> Result<(), Stopped>
+    requires board { IsOf pass.old board.now }
+    requires labels { IsFace labels.now }
+    requires places { (q : ℕ) → has labels.now q ≡ true → q ≤ places_on board.now }
+    requires going { (s : Story) × (now : Space) × Going s (know pass.old) × Made pass.old hold.old now × ((q : ℕ) → has labels.now q ≡ true → flips_touch q s.flips ≡ true) }
+    requires room { Roomy hold.old × (length hold.old.places.items + length labels.now ≤ 33) }
+    ensures same { IsSame pass.old pass.new }
+    ensures kept { ((know pass.new).worker ≡ (know pass.old).worker) × ((know pass.new).start ≡ (know pass.old).start) × ((know pass.new).places ≡ (know pass.old).places) }
+    ensures hold { (hold.new.flips.items ≡ hold.old.flips.items) × (hold.new.copies.items ≡ hold.old.copies.items) × Roomy hold.new × (length hold.new.places.items ≤ length hold.old.places.items + length labels.now) }
+    ensures held { OnOk result ((q : ℕ) → has labels.now q ≡ true → has_item (know pass.new).items q ≡ true) }
+    ensures going { (s : Story) (now : Space) → Going s (know pass.old) → ((q : ℕ) → has labels.now q ≡ true → flips_touch q s.flips ≡ true) → Made pass.old hold.old now →
+        OnOk result ((m : Space) × Going s (know pass.new) × Made pass.new hold.new m × (star_in m s.place ≡ star_in now s.place)) }
+    ensures ends { (s : Story) (now : Space) → Going s (know pass.old) → ((q : ℕ) → has labels.now q ≡ true → flips_touch q s.flips ≡ true) → Made pass.old hold.old now → IfErr result (Ends s pass.new hold.new) }
+    ensures later { G.quits gate.old ≤ G.quits gate.new }
+    ensures quit { IfErr result (λ answer. answer ≡ Stopped.Quit → G.quits gate.old < G.quits gate.new) }
+{
+    for label in labels {
+        if let Err(answer) = claim_label(board, pass, hold, gate, *label) {
+            return Err(answer);
+        }
+    }
+    Ok(())
+}

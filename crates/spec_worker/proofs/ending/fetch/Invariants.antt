@@ -1,7 +1,0 @@
-use Rattle.std.proofs.Common.{◌≡◌, ℕ, List, length}
-use Rattle.vertex_claims.specs.Passes.{IsSame, SameSlots, know}
-use Rattle.spec_worker.specs.Holding.{waits}
-use Rattle.spec_worker.proofs.ending.fetch.Given as goal
-
-abbrev pub invariant-loop : goal.invariant-loop
-invariant-loop l = IsSame l.initial.pass l.pass × SameSlots l.initial.pass l.pass × ((owners : List ℕ) × (length owners ≡ l.counter) × (know l.pass ≡ waits (know l.initial.pass) owners))

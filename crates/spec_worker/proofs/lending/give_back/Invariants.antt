@@ -1,9 +1,0 @@
-use Rattle.std.proofs.Common.{◌≡◌, vec_capacity}
-use Rattle.spec_worker.proofs.LentStars.{Returning}
-use Rattle.spec_worker.proofs.lending.give_back.Given as goal
-
-abbrev pub invariant-loop-star : goal.invariant-loop-star
-invariant-loop-star l = Returning l.fn.pass l.pass l.fn.near.items l.near.items × (vec_capacity l.near ≡ vec_capacity l.fn.near)
-
-abbrev pub decreases-loop-star : goal.decreases-loop-star
-decreases-loop-star l = goal.left-loop-star l

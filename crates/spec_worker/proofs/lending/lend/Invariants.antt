@@ -1,6 +1,0 @@
-use Rattle.std.proofs.Common.{◌≡◌, take, vec_capacity}
-use Rattle.spec_worker.proofs.LentStars.{Lending}
-use Rattle.spec_worker.proofs.lending.lend.Given as goal
-
-abbrev pub invariant-loop-label : goal.invariant-loop-label
-invariant-loop-label l = Lending l.fn.pass l.pass (take l.label-index l.labels) l.near.items × (vec_capacity l.near ≡ vec_capacity l.fn.near)
