@@ -1,0 +1,15 @@
+pub mod Lists
+pub mod Beginnings
+pub mod Carrying
+pub mod Judging
+pub mod OneTry
+pub mod Growing
+pub mod Accounting
+pub mod Holding
+pub mod Blaming
+pub mod Parts
+pub mod Gaining
+pub mod Gathering
+pub mod Committing
+pub mod Ending
+pub mod Counting

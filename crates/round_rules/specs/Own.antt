@@ -1,0 +1,111 @@
+-- What a worker says of one of its own tries, by the note that the pass keeps of it.
+use Rattle.std.specs.Prelude.{◌≡◌, ◌≢◌, ◌⊎◌, ℕ, ◌<◌, true, false, ℤ, ◌≤ℤ◌, ◌<ℤ◌, List, [], ◌∷◌, ◌++◌, length, Err, Some}
+use mathlib.Core.Option.{some}
+use Rattle.complex_core.specs.Spaces.{Space, IsComplex}
+use Rattle.flip_rules.specs.Flips.{why, replay}
+use Rattle.flip_rules.specs.Entries.{JournalEntry}
+use Rattle.flip_rules.specs.declared.flip.Flip.{Flip}
+use Rattle.flip_rules.specs.declared.flip.Illegal.TheVariants.{BIsFace}
+use Rattle.star_laws.specs.Stars.{flips_touch, LabelsPass}
+use Rattle.board_rule.specs.Items.{item, has_item}
+use Rattle.board_rule.specs.Plays.{IsRefused}
+use Rattle.board_rule.specs.Tries.{Try}
+use Rattle.board_rule.specs.Views.{star_in}
+use Rattle.board_rule.specs.declared.data.Home.{Home}
+use Rattle.anneal_plan.specs.Proposals.{allowed_of}
+use Rattle.round_rules.specs.Tasks.{Task, place_of, turns_of, changes}
+use Rattle.round_rules.specs.declared.tried.Tried.{Tried}
+use Rattle.round_rules.specs.declared.tried.Tried.TheVariants.{Committed, Busy, Nothing, Blocked, Declined, Quit, NoMemory}
+
+-- a complex of this dimension that has the noted stars
+pub record HasStars (d : ℕ) (note : List (ℕ × Home)) (k : Space) : Type 0 where
+  pub complex : IsComplex k
+  pub dim : k.dim ≡ d
+  pub stars : (p : ℕ) (x : Home) → item note p ≡ some x → x.star ≡ star_in k p
+
+-- on the noted stars the flips are legal in order: their labels are noted, and they replay on a complex that has these stars
+pub record ReplaysOn (d : ℕ) (note : List (ℕ × Home)) (flips : List Flip) : Type 0 where
+  pub complex : Space
+  pub end : Space
+  pub stars : HasStars d note complex
+  pub labels : LabelsPass (has_item note) flips
+  pub replays : replay complex flips ≡ Some end
+
+-- no later claim was refused
+abbrev pub Unrefused : Try → Type 0
+Unrefused t = (t.vertices ≡ 0) × (t.journal ≡ 0)
+
+-- one later claim was refused, at another place, which is a label of the flips
+pub record VertexRefused (t : Try) (q : ℕ) (flips : List Flip) : Type 0 where
+  pub other : q ≢ t.place
+  pub label : flips_touch q flips ≡ true
+  pub vertices : t.vertices ≡ 1
+  pub journal : t.journal ≡ 0
+
+-- the flips might have been committed, but place 0 was refused 64 times
+pub record JournalRefused (task : Task) (t : Try) (flips : List Flip) : Type 0 where
+  pub some : flips ≢ []
+  pub allowed : changes task.dim flips ≤ℤ allowed_of task.dim task.phase
+  pub legal : ReplaysOn task.dim t.note flips
+  pub vertices : t.vertices ≡ 0
+  pub journal : t.journal ≡ 64
+
+-- another worker had the place
+pub record BusyOwn (task : Task) (w : ℕ) (t : Try) (q o : ℕ) (flips : List Flip) : Type 0 where
+  pub last : t.last ≡ q
+  pub owner : t.owner ≡ o
+  pub other : IsRefused w o
+  pub vertex : 0 < q → VertexRefused t q flips
+  pub journal : q ≡ 0 → JournalRefused task t flips
+
+-- B of one of the flips is a face, where the flips before it were legal
+pub record BlockedOwn (task : Task) (t : Try) (f : Flip) (flips : List Flip) : Type 0 where
+  pub before : List Flip
+  pub next : List Flip
+  pub member : flips ≡ before ++ f ∷ next
+  pub legal : ReplaysOn task.dim t.note before
+  pub labels : LabelsPass (has_item t.note) (f ∷ [])
+  pub face : why legal.end f.a f.b ≡ Err BIsFace
+  pub unrefused : Unrefused t
+
+-- the flips are legal, and make too many facets
+pub record DeclinedOwn (task : Task) (t : Try) (c : ℤ) (flips : List Flip) : Type 0 where
+  pub some : flips ≢ []
+  pub legal : ReplaysOn task.dim t.note flips
+  pub sum : c ≡ changes task.dim flips
+  pub above : allowed_of task.dim task.phase <ℤ c
+  pub unrefused : Unrefused t
+
+-- the flips are the next entry of the worker
+pub record CommittedOwn (task : Task) (round w : ℕ) (t : Try) (s : ℕ) (was now : List JournalEntry) (flips : List Flip) : Type 0 where
+  pub some : flips ≢ []
+  pub allowed : changes task.dim flips ≤ℤ allowed_of task.dim task.phase
+  pub number : s ≡ length was
+  pub entry : now ≡ was ++ record { round = round; worker = w; seq = s; flips = flips } ∷ []
+  pub vertices : t.vertices ≡ 0
+  pub journal : t.journal < 64
+
+-- the row of an answer: of a try, with the flips that it proposes, and the entries of the worker before it and after it
+abbrev pub OwnRow : Task → ℕ → ℕ → Try → List JournalEntry → List JournalEntry → List Flip → Tried → Type 0
+OwnRow task round w t was now flips (Committed s) = CommittedOwn task round w t s was now flips
+OwnRow task round w t was now flips (Busy q o) = BusyOwn task w t q o flips × (now ≡ was)
+OwnRow task round w t was now flips Nothing = (flips ≡ []) × Unrefused t × (now ≡ was)
+OwnRow task round w t was now flips (Blocked f) = BlockedOwn task t f flips × (now ≡ was)
+OwnRow task round w t was now flips (Declined c) = DeclinedOwn task t c flips × (now ≡ was)
+OwnRow task round w t was now flips Quit = now ≡ was
+OwnRow task round w t was now flips NoMemory = now ≡ was
+
+-- a try whose first claim was won, at a star with a version: what it noted beside its own place are labels of its flips
+pub record WonOwn (task : Task) (round w : ℕ) (t : Try) (was now : List JournalEntry) (a : Tried) : Type 0 where
+  pub home : Home
+  pub first : item t.note t.place ≡ some home
+  pub version : home.version ≡ t.found
+  pub among : (q : ℕ) → has_item t.note q ≡ true → (q ≡ t.place) ⊎ (flips_touch q (turns_of task home.star) ≡ true)
+  pub row : OwnRow task round w t was now (turns_of task home.star) a
+
+-- one try of worker w in a round, with the entries of the worker before it and after it, and its answer
+pub record OwnTry (task : Task) (round w : ℕ) (t : Try) (was now : List JournalEntry) (a : Tried) : Type 0 where
+  pub place : t.place ≡ place_of task
+  pub count : t.count ≡ length was
+  pub lost : t.won ≡ false → (a ≡ Busy t.place t.found) × IsRefused w t.found × (now ≡ was)
+  pub won : t.won ≡ true → WonOwn task round w t was now a
