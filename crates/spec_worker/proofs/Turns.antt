@@ -1,0 +1,192 @@
+-- A try before and after one turn.
+use Rattle.std.proofs.Common.{◌≡◌, ℕ, ◌+◌, ◌*◌, ◌≤◌, Bool, true, false, List, [], ◌∷◌, ◌++◌, length, append_assoc, length-append, Ok, Err, if◌then◌else◌, sym, ◌∙◌, ap, refl, subst, arith}
+use mathlib.Core.Option.{some}
+use Rattle.complex_core.specs.Labels.{has, union}
+use Rattle.complex_core.specs.Spaces.{Space, is_held}
+use Rattle.complex_core.proofs.Laws.{or_left, or_right}
+use Rattle.flip_rules.specs.Flips.{why, flipped, Shaped, FlipRefused}
+use Rattle.flip_rules.specs.Journals.{flip_touches}
+use Rattle.flip_rules.specs.declared.flip.Flip.{Flip}
+use Rattle.flip_rules.specs.declared.flip.FlipFault.{FlipFault}
+use Rattle.flip_rules.specs.declared.flip.FlipFault.TheVariants as fault_of
+use Rattle.flip_rules.specs.declared.flip.Illegal.{Illegal}
+use Rattle.flip_rules.specs.declared.flip.Illegal.TheVariants.{BIsFace}
+use Rattle.star_laws.specs.Stars.{flips_touch, LabelsPass}
+use Rattle.star_laws.proofs.FlipStars.{star_flipped}
+use Rattle.stars.specs.StarViews.{VertexStar}
+use Rattle.board_rule.specs.Items.{item, has_item}
+use Rattle.board_rule.specs.Plays.{Sees}
+use Rattle.board_rule.specs.Views.{star_in}
+use Rattle.board_rule.specs.declared.data.Home.{Home as HomeOf}
+use Rattle.board_rule.specs.declared.view.Hand.{Hand}
+use Rattle.anneal_plan.specs.Fits.{FitsStar}
+use Rattle.anneal_plan.specs.Turns.{after_flip, after_flips}
+use Rattle.anneal_plan.proofs.Fitting.{only_b_can_break}
+use Rattle.vertex_claims.specs.Passes.{know}
+use Rattle.vertex_claims.specs.declared.pass.Pass.{Pass}
+use Rattle.held_stars.specs.Holding.{Story, Noting, Going, Made, Restorable, RefusedAt, Reason, Ends}
+use Rattle.held_stars.specs.declared.hold.Hold.{Hold}
+use Rattle.held_stars.specs.declared.stopped.Stopped.{Stopped}
+use Rattle.held_stars.specs.declared.stopped.Stopped.TheVariants as stopped
+use Rattle.held_stars.proofs.MadeFlips.{union_touches, made_restorable}
+use Rattle.round_rules.specs.Own.{ReplaysOn}
+use Rattle.round_rules.specs.Tasks.{Task}
+use Rattle.round_rules.specs.declared.tried.Tried.{Tried}
+use Rattle.round_rules.specs.declared.tried.Tried.TheVariants.{Busy, Blocked, Quit, NoMemory}
+use Rattle.spec_worker.specs.Trying.{Turned, IsNext, Ended}
+use Rattle.spec_worker.proofs.Within.{touched_one}
+
+-- ---- labels of flips
+
+-- the labels of a flip are labels of flips that it stands among
+touch_among : (q : ℕ) (xs : List Flip) (f : Flip) (ys : List Flip) → flip_touches q f ≡ true → flips_touch q (xs ++ f ∷ ys) ≡ true
+touch_among q [] f ys t = or_left (flip_touches q f) (flips_touch q ys) t
+touch_among q (x ∷ xs) f ys t = or_right (flip_touches q x) (flips_touch q (xs ++ f ∷ ys)) (touch_among q xs f ys t)
+
+pub all_among : (s : Story) (dim : ℕ) (pass : Pass) (h : Hold) (f : Flip) (next : List Flip) (labels : List ℕ) → IsNext s dim pass h f next → labels ≡ union f.a f.b → (q : ℕ) → has labels q ≡ true → flips_touch q s.flips ≡ true
+all_among s dim pass h f next labels n is q t = ap (flips_touch q) n.turned.whole ∙ touch_among q h.flips.items f next (sym (union_touches labels f q is) ∙ t)
+
+-- ---- dimensions
+
+-- the star where the try began has the dimension of the try
+pub home_dim : (s : Story) (v : Hand) → Sees v → Going s v → s.home.star.dim ≡ s.dim
+home_dim s v sees g =
+    let here : item v.items s.place ≡ some s.home = ap (λ (l : List (ℕ × HomeOf)). item l s.place) (sym g.note) ∙ g.noting.first in
+    ap (λ (x : VertexStar). x.dim) (sees.stars s.place s.home here).1 ∙ sees.dim ∙ g.noting.start
+
+pub next_shape : (s : Story) (dim : ℕ) (pass : Pass) (h : Hold) (f : Flip) (next : List Flip) → IsNext s dim pass h f next → Shaped dim f.a f.b
+next_shape s dim pass h f next n = subst (λ (d : ℕ). Shaped d f.a f.b) (home_dim s (know pass) pass.sees n.turned.going ∙ n.dim_is) n.fits.shape
+
+-- ---- a flip is made
+
+after_more : (s : VertexStar) (front : List Flip) (f : Flip) → after_flip (after_flips s front) f ≡ after_flips s (front ++ f ∷ [])
+after_more s [] f = refl
+after_more s (g ∷ front) f = after_more (after_flip s g) front f
+
+-- how a try stands once the labels of its next flip are held
+pub record Claimed (s : Story) (f : Flip) (next : List Flip) (pass : Pass) (h : Hold) : Type 0 where
+  pub going : Going s (know pass)
+  pub now : Space
+  pub made : Made pass h now
+  pub whole : s.flips ≡ h.flips.items ++ f ∷ next
+  pub star : star_in now s.place ≡ after_flips s.home.star h.flips.items
+  pub labels : LabelsPass (has_item (know pass).items) (f ∷ [])
+  pub free : List ℕ
+  pub fits : FitsStar (after_flips s.home.star h.flips.items) free f
+  pub places : length h.places.items ≤ 9 + 8 * length h.flips.items
+
+-- the claims leave the flips and the star of the place
+pub claimed : (s : Story) (dim : ℕ) (a b : Pass) (h n : Hold) (f : Flip) (next : List Flip) (labels : List ℕ) → IsNext s dim a h f next → labels ≡ union f.a f.b → length (union f.a f.b) ≤ 8 → n.flips.items ≡ h.flips.items
+    → length n.places.items ≤ length h.places.items + length labels → ((q : ℕ) → has labels q ≡ true → has_item (know b).items q ≡ true)
+    → ((now : Space) → Going s (know a) → ((q : ℕ) → has labels q ≡ true → flips_touch q s.flips ≡ true) → Made a h now → (m : Space) × Going s (know b) × Made b n m × (star_in m s.place ≡ star_in now s.place))
+    → Claimed s f next b n
+claimed s dim a b h n f next labels t is few flips places held claim = let r = claim t.turned.now t.turned.going (all_among s dim a h f next labels t is) t.turned.made in record {
+  going = r.1;
+  now = r.0;
+  made = r.2;
+  whole = t.turned.whole ∙ ap (λ (fs : List Flip). fs ++ f ∷ next) (sym flips);
+  star = r.3 ∙ t.turned.star ∙ ap (after_flips s.home.star) (sym flips);
+  labels = λ q u. held q (union_touches labels f q is ∙ touched_one q f u);
+  free = t.free;
+  fits = subst (λ (fs : List Flip). FitsStar (after_flips s.home.star fs) t.free f) (sym flips) t.fits;
+  places = let p : length h.places.items ≤ 1 + 8 * length h.flips.items = t.turned.places in omega (arith, p, few, ap length is, places, ap length flips);
+}
+
+-- then the flip is made
+pub turned : (s : Story) (a b : Pass) (h n : Hold) (f : Flip) (next : List Flip) (t : Claimed s f next a h) → know b ≡ know a → Made b n (flipped t.now f.a f.b) → n.flips.items ≡ h.flips.items ++ f ∷ [] → n.places.items ≡ h.places.items
+    → length n.copies.items ≤ 8 * length n.flips.items → Turned s b n next
+turned s a b h n f next t known made flips places copies = record {
+  going = subst (Going s) (sym known) t.going;
+  now = flipped t.now f.a f.b;
+  made = made;
+  whole = t.whole ∙ sym (append_assoc h.flips.items (f ∷ []) next) ∙ ap (λ (fs : List Flip). fs ++ next) (sym flips);
+  star = (λ i. record { vertex = s.place; dim = t.now.dim; rows = star_flipped t.now f.a f.b s.place i })
+      ∙ ap (λ (x : VertexStar). after_flip x f) t.star ∙ after_more s.home.star h.flips.items f ∙ ap (after_flips s.home.star) (sym flips);
+  places = let p = t.places in omega (arith, p, ap length places, ap length flips, length-append h.flips.items (f ∷ []));
+  copies = copies;
+}
+
+-- ---- a try ends
+
+-- the gate ended it
+pub ended_quit : (task : Task) (s : Story) (pass : Pass) (h : Hold) (rest : List Flip) (a : Tried) → Turned s pass h rest → a ≡ Quit → Ended task s pass h a
+ended_quit task s pass h rest a t is = subst (Ended task s pass h) (sym is) record {
+  try_now = t.going.try_now;
+  noting = t.going.noting;
+  mine = t.going.mine;
+  reason = tt;
+  restorable = made_restorable pass pass h t.now pass.sees t.made refl t.made.hosts;
+}
+
+pub ended_claim_quit : (task : Task) (s : Story) (pass : Pass) (h : Hold) (reason : Stopped) → reason ≡ stopped.Quit → Ends s pass h reason → Ended task s pass h Quit
+ended_claim_quit task s pass h reason is e = record { try_now = e.try_now; noting = e.noting; mine = e.mine; reason = tt; restorable = e.restorable }
+
+-- another worker had a label
+pub ended_busy : (task : Task) (s : Story) (pass : Pass) (h : Hold) (p w q o : ℕ) (reason : Stopped) → reason ≡ stopped.Busy q o → p ≡ q → w ≡ o → Ends s pass h reason → Ended task s pass h (Busy p w)
+ended_busy task s pass h p w q o reason is at by e =
+    let r : RefusedAt s e.try_now p w = subst (λ (y : Stopped). Reason s e.try_now y) (is ∙ (λ i. stopped.Busy (sym at i) (sym by i))) e.reason in
+    record {
+      try_now = e.try_now;
+      noting = e.noting;
+      mine = e.mine;
+      reason = record {
+        last = r.last;
+        owner = r.owner;
+        other = r.worker;
+        vertex = λ _. record { other = r.other; label = r.label; vertices = r.vertices; journal = r.journal };
+        journal = λ z. absurd (omega (arith, z, r.low));
+      };
+      restorable = e.restorable;
+    }
+
+-- there wasn't enough memory
+pub ended_memory : (task : Task) (s : Story) (f : Flip) (next : List Flip) (a b : Pass) (h n : Hold) → Claimed s f next a h → know b ≡ know a → Restorable b n → Ended task s b n NoMemory
+ended_memory task s f next a b h n t known r = record {
+  try_now = t.going.try_now;
+  noting = subst (λ (v : Hand). Noting s v t.going.try_now) (sym known) t.going.noting;
+  mine = ap (λ (v : Hand). v.mine) known ∙ t.going.mine;
+  reason = tt;
+  restorable = r;
+}
+
+-- the noted stars are those of the complex that the pass knows, and the flips so far replay on it
+replays_on : (s : Story) (dim : ℕ) (pass : Pass) (h : Hold) (now : Space) → (g : Going s (know pass)) → Made pass h now → s.dim ≡ dim → ReplaysOn dim g.try_now.note h.flips.items
+replays_on s dim pass h now g m is = record {
+  complex = (know pass).seen;
+  end = now;
+  stars = record {
+    complex = pass.sees.complex;
+    dim = pass.sees.dim ∙ g.noting.start ∙ is;
+    stars = λ p x at. (pass.sees.stars p x (ap (λ (l : List (ℕ × HomeOf)). item l p) (sym g.note) ∙ at)).1;
+  };
+  labels = λ q t. ap (λ (l : List (ℕ × HomeOf)). has_item l q) g.note ∙ m.labels q t;
+  replays = m.replays;
+}
+
+-- the only rule that a proposed flip may break
+only_face : (s : Story) (k : Space) (free : List ℕ) (f : Flip) (x : VertexStar) (e : Illegal) → star_in k s.place ≡ x → FitsStar x free f → why k f.a f.b ≡ Err e → why k f.a f.b ≡ Err BIsFace
+only_face s k free f x e is fits w =
+    by (is_held k.facets f.b) (only_b_can_break k (star_in k s.place) free f record { dim = refl; rows = refl } (subst (λ (y : VertexStar). FitsStar y free f) (sym is) fits))
+  where
+    by : (b : Bool) → why k f.a f.b ≡ (if b then Err BIsFace else Ok tt) → why k f.a f.b ≡ Err BIsFace
+    by true u = u
+    by false u = let c : Ok tt ≡ Err e = sym u ∙ w in cc
+
+-- B is a face
+pub ended_blocked : (task : Task) (s : Story) (f : Flip) (next : List Flip) (a b : Pass) (h n : Hold) (e : Illegal) (fault : FlipFault) → (t : Claimed s f next a h) → s.dim ≡ task.dim → know b ≡ know a → fault ≡ fault_of.Illegal e → FlipRefused (why t.now f.a f.b) fault → Restorable b n → Ended task s b n (Blocked f)
+unfolding replays_on
+ended_blocked task s f next a b h n e fault t is known illegal refused r = let w = subst (FlipRefused (why t.now f.a f.b)) illegal refused in record {
+  try_now = t.going.try_now;
+  noting = subst (λ (v : Hand). Noting s v t.going.try_now) (sym known) t.going.noting;
+  mine = ap (λ (v : Hand). v.mine) known ∙ t.going.mine;
+  reason = record {
+    before = h.flips.items;
+    next = next;
+    member = t.whole;
+    legal = replays_on s task.dim a h t.now t.going t.made is;
+    labels = λ q u. ap (λ (l : List (ℕ × HomeOf)). has_item l q) t.going.note ∙ t.labels q u;
+    face = only_face s t.now t.free f (after_flips s.home.star h.flips.items) e t.star t.fits w;
+    unrefused = t.going.fresh;
+  };
+  restorable = r;
+}

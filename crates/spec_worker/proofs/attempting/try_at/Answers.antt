@@ -1,0 +1,37 @@
+use Rattle.std.proofs.Common.{◌≡◌, ◌∙◌, arith}
+use Rattle.vertex_claims.specs.Passes.{know, round_of, places_on}
+use Rattle.spec_worker.proofs.BegunTries.{some_told, begun, first_dim, tried_own}
+use Rattle.spec_worker.proofs.attempting.try_at.Goals as goal
+
+pub explore-made-requires-clause-dim : goal.explore-made-requires-clause-dim
+explore-made-requires-clause-dim g c =
+    let won = c.in-Ok.ensures.won in
+    let dim : c.in-Ok.dim ≡ (know c.args.pass.now).start.dim = won.4 ∙ first_dim c.args.pass.now c.begin_at.new.pass c.args.order.now.place won.0 won.1 won.2 in
+    let low = c.requires.board.2 in
+    (omega (arith, dim, low), won.5)
+
+pub explore-made-requires-clause-turned : goal.explore-made-requires-clause-turned
+explore-made-requires-clause-turned g c =
+    let won = c.in-Ok.ensures.won in
+    let hold = c.in-Ok.ensures.hold in
+    let t = some_told c.args.order.now (places_on c.args.board.now) (know c.args.pass.now).start.dim c.requires.order in
+    let b = begun t.task c.args.order.now c.args.pass.now c.begin_at.new.pass c.begin_at.new.hold c.in-Ok.dim won.0 won.1 t.told c.requires.empty won.2 won.3 won.4 hold.0 hold.1 hold.2 hold.3 in
+    (t.task, b.story, b.told, b.of, b.turned)
+
+pub finish-requires-clause-made : goal.finish-requires-clause-made
+finish-requires-clause-made g c =
+    let won = c.in-Ok.ensures.won in
+    let hold = c.in-Ok.ensures.hold in
+    let t = some_told c.args.order.now (places_on c.args.board.now) (know c.args.pass.now).start.dim c.requires.order in
+    let b = begun t.task c.args.order.now c.args.pass.now c.begin_at.new.pass c.begin_at.new.hold c.in-Ok.dim won.0 won.1 t.told c.requires.empty won.2 won.3 won.4 hold.0 hold.1 hold.2 hold.3 in
+    (t.task, b.story, c.explore-made.ensures.commits t.task b.story b.told b.of b.turned, c.explore-made.ensures.ends t.task b.story b.told b.of b.turned)
+
+pub returns-in-Ok-clause-own : goal.returns-in-Ok-clause-own
+returns-in-Ok-clause-own g c = λ task told.
+    let won = c.in-Ok.ensures.won in
+    let hold = c.in-Ok.ensures.hold in
+    let b = begun task c.args.order.now c.args.pass.now c.begin_at.new.pass c.begin_at.new.hold c.in-Ok.dim won.0 won.1 told c.requires.empty won.2 won.3 won.4 hold.0 hold.1 hold.2 hold.3 in
+    let e = c.explore-made.ensures in
+    let f = c.finish.ensures in
+    tried_own task c.args.order.now c.args.pass.now c.begin_at.new.pass c.explore-made.new.pass c.finish.new.pass c.begin_at.new.hold c.explore-made.new.hold c.in-Ok.dim (round_of c.args.board.now) b f.entries.0 f.entries.1 c.explore-made.result c.finish.result
+    (e.commits task b.story b.told b.of b.turned) (e.ends task b.story b.told b.of b.turned) f.answer

@@ -1,0 +1,3 @@
+-- Workers and their tries.
+pub mod Workers
+pub mod Trying

@@ -1,0 +1,161 @@
+//! The turns of a try: in each a flip is proposed, and made on the stars of its labels.
+
+ghost use Rattle.std.specs.Prelude.{◌≡◌, ◌<◌, ◌≤◌, ◌+◌, ◌++◌, ◌∷◌, [], ℕ, List, true, IfSome, IfErr, OnOk, pos, ◌≤ℤ◌, negsuc, length};
+ghost use Rattle.std.specs.List.{AllByRecursion};
+ghost use mathlib.Core.Option.{some};
+ghost use Rattle.flip_rules.specs.declared.flip.Flip.{Flip as FlipOf};
+ghost use Rattle.star_laws.specs.Stars.{flips_touch};
+ghost use Rattle.anneal_plan.specs.Fits.{FitsStar};
+ghost use Rattle.anneal_plan.specs.Proposals.{proposal_of};
+ghost use Rattle.board_rule.specs.declared.data.Home.{Home as HomeOf};
+ghost use Rattle.vertex_claims.specs.Passes.{IsOf, IsSame, SameSlots, know, slot, spare, places_on};
+ghost use Rattle.held_stars.specs.Holding.{Story, Roomy};
+ghost use Rattle.round_rules.specs.Tasks.{Task, change, changes};
+ghost use Rattle.spec_worker.specs.Trying.{IsFit, IsTold, IsStoryOf, Turned, IsNext, Ended};
+
+use anneal_plan::{Phase, proposal};
+use board_rule::{Home, Slot};
+use flip_rules::{Flip, FlipFault};
+use held_stars::{Gate, Hold, Point, Step, Stopped, claim_labels, make_flip};
+use round_rules::Tried;
+use std::alloc::Global;
+use vertex_claims::{Board, Pass};
+
+// What a try is told.
+#[derive(Clone, Copy)]
+pub(crate) struct Order<'a> {
+    pub(crate) phase: Phase,
+    pub(crate) words: &'a [u32; 8],
+    // The labels that flips of index 0 may bring in.
+    pub(crate) free: &'a [u16],
+    // How many flips it has at most.
+    pub(crate) count: u32,
+    // Where it begins.
+    pub(crate) place: u16,
+}
+
+// Asks the gate at a point.
+pub(crate) fn ask<G: Gate>(gate: &mut G, point: Point) -> Result<(), Tried>
+    ensures later { G.quits gate.old ≤ G.quits gate.new }
+    ensures quit { IfErr result (λ answer. (answer ≡ Tried.Quit) × (G.quits gate.old < G.quits gate.new)) }
+{
+    match gate.at(point) {
+        Step::Go => Ok(()),
+        Step::Quit => Err(Tried::Quit),
+    }
+}
+
+// Proposes the flip of a turn at a place that is held.
+fn propose(board: &Board, pass: &mut Pass, order: &Order<'_>, turn: u32) -> Option<Flip>
+    requires board { IsOf pass.old board.now }
+    requires star { (x : HomeOf) × (slot pass.old order.now.place ≡ some (Slot.Home x)) × (1 ≤ x.star.dim) }
+    requires turn { turn ≤ 3 }
+    requires free { AllByRecursion (λ x. 0 < x) order.now.free.now }
+    ensures same { IsSame pass.old pass.new }
+    ensures known { (know pass.new ≡ know pass.old) × (spare pass.new ≡ spare pass.old) × SameSlots pass.old pass.new }
+    ensures proposal { (x : HomeOf) → slot pass.old order.now.place ≡ some (Slot.Home x) → result ≡ proposal_of x.star order.now.phase order.now.words.now turn order.now.free.now }
+    ensures fits { (x : HomeOf) → slot pass.old order.now.place ≡ some (Slot.Home x) → IfSome result (FitsStar x.star order.now.free.now) }
+{
+    let Home { star, version } = pass.take_star(board, order.place);
+    let flip = proposal(&star, order.phase, order.words, turn, order.free);
+    pass.put_star(board, order.place, Home { star, version });
+    flip
+}
+
+// Claims the labels of a flip, and makes it.
+fn take_turn<G: Gate>(
+    board: &Board,
+    pass: &mut Pass,
+    hold: &mut Hold,
+    alloc: Global,
+    gate: &mut G,
+    dim: u32,
+    flip: &Flip,
+) -> Result<(), Tried>
+    requires board { IsOf pass.old board.now }
+    requires places { (q : ℕ) → flips_touch q (flip.now ∷ []) ≡ true → q ≤ places_on board.now }
+    requires dim { dim ≤ 6 }
+    requires next { (s : Story) × (next : List FlipOf) × IsNext s dim pass.old hold.old flip.now next }
+    requires room { Roomy hold.old × (length hold.old.flips.items < 4) }
+    ensures same { IsSame pass.old pass.new }
+    ensures kept { ((know pass.new).worker ≡ (know pass.old).worker) × ((know pass.new).start ≡ (know pass.old).start) × ((know pass.new).places ≡ (know pass.old).places) }
+    ensures room { Roomy hold.new }
+    ensures flips { OnOk result (hold.new.flips.items ≡ hold.old.flips.items ++ flip.now ∷ []) }
+    ensures few { length hold.new.flips.items ≤ length hold.old.flips.items + 1 }
+    ensures turned { (s : Story) (next : List FlipOf) → IsNext s dim pass.old hold.old flip.now next → OnOk result (Turned s pass.new hold.new next) }
+    ensures ends { (task : Task) (s : Story) (next : List FlipOf) → task.dim ≡ dim → IsNext s dim pass.old hold.old flip.now next → IfErr result (Ended task s pass.new hold.new) }
+    ensures later { G.quits gate.old ≤ G.quits gate.new }
+    ensures quit { IfErr result (λ answer. answer ≡ Tried.Quit → G.quits gate.old < G.quits gate.new) }
+{
+    let Some(labels) = flip.a.union(&flip.b) else {
+        unreachable!()
+    };
+    match claim_labels(board, pass, hold, gate, labels.labels()) {
+        Ok(()) => {}
+        Err(Stopped::Busy { place, owner }) => return Err(Tried::Busy { place, owner }),
+        Err(Stopped::Quit) => return Err(Tried::Quit),
+    }
+    match make_flip(board, pass, hold, alloc, dim, flip) {
+        Ok(()) => ask(gate, Point::Flipped),
+        Err(FlipFault::Illegal(_)) => Err(Tried::Blocked(*flip)),
+        Err(FlipFault::Memory) => Err(Tried::NoMemory),
+    }
+}
+
+// Makes the turns of a try, up to the first that has no proposal.
+pub(crate) fn make_turns<G: Gate>(
+    board: &Board,
+    pass: &mut Pass,
+    hold: &mut Hold,
+    alloc: Global,
+    gate: &mut G,
+    dim: u32,
+    order: &Order<'_>,
+) -> Result<(), Tried>
+    requires board { IsOf pass.old board.now × ((know pass.old).places ≡ places_on board.now) }
+    requires order { IsFit order.now (places_on board.now) }
+    requires dim { (1 ≤ dim) × (dim ≤ 6) }
+    requires turned { (task : Task) × (s : Story) × IsTold order.now dim task × IsStoryOf task s × Turned s pass.old hold.old s.flips }
+    requires room { Roomy hold.old × (hold.old.flips.items ≡ []) }
+    ensures same { IsSame pass.old pass.new }
+    ensures kept { ((know pass.new).worker ≡ (know pass.old).worker) × ((know pass.new).start ≡ (know pass.old).start) × ((know pass.new).places ≡ (know pass.old).places) }
+    ensures room { Roomy hold.new }
+    ensures turned { (task : Task) (s : Story) → IsTold order.now dim task → IsStoryOf task s → Turned s pass.old hold.old s.flips → OnOk result (Turned s pass.new hold.new []) }
+    ensures few { length hold.new.flips.items ≤ 4 }
+    ensures ends { (task : Task) (s : Story) → IsTold order.now dim task → IsStoryOf task s → Turned s pass.old hold.old s.flips → IfErr result (Ended task s pass.new hold.new) }
+    ensures later { G.quits gate.old ≤ G.quits gate.new }
+    ensures quit { IfErr result (λ answer. answer ≡ Tried.Quit → G.quits gate.old < G.quits gate.new) }
+{
+    for turn in 0..order.count {
+        let Some(flip) = propose(board, pass, order, turn) else {
+            return Ok(());
+        };
+        if let Err(answer) = take_turn(board, pass, hold, alloc, gate, dim, &flip) {
+            return Err(answer);
+        }
+    }
+    Ok(())
+}
+
+// By how much a flip changes the number of facets.
+fn change_of(dim: u32, flip: &Flip) -> i32
+    requires dim { dim ≤ 6 }
+    ensures change { result ≡ change dim flip.now }
+    ensures bounds { (negsuc 15 ≤ℤ result) × (result ≤ℤ pos 6) }
+{
+    let labels = flip.b.labels().len() as u32;
+    dim as i32 - (2 * labels.saturating_sub(1)) as i32
+}
+
+// By how much flips one after another change it.
+pub(crate) fn changes_of(dim: u32, flips: &[Flip]) -> i32
+    requires dim { dim ≤ 6 }
+    requires few { length flips.now ≤ 4 }
+    ensures { result ≡ changes dim flips.now }
+{
+    let mut sum = 0;
+    for flip in flips {
+        sum += change_of(dim, flip);
+    }
+    sum
+}
