@@ -1,0 +1,3 @@
+-- What the report of a search shows of its complex.
+pub mod Shown
+pub mod Laws
