@@ -1,8 +1,10 @@
 //! The program `bistellar`: reads standard input, does the job that its words name, and writes the answer to standard
-//! output. All that it answers is `job_run`'s; here only the real source, sink and words are put together.
+//! output. All that it answers is `job_run`'s; here only the real source, sink, words and threads are put together, and gates
+//! that let each worker go on.
 #![tactic(auto)]
 
 use flip_io::{StdSink, StdSource};
+use held_stars::OpenGate;
 use job_run::{Status, run_job};
 use std::io;
 use std::process::ExitCode;
@@ -31,6 +33,7 @@ fn main(rt: HostRuntime) -> ExitCode {
     };
     let mut source = StdSource::new(rt.stdin());
     let mut sink = StdSink::new(rt.stdout());
-    let answer = run_job(rt.alloc(), &words, &mut source, &mut sink);
+    let mut gates = [OpenGate; 16];
+    let answer = run_job(&rt, rt.alloc(), &words, &mut source, &mut sink, &mut gates);
     ExitCode::from(answer.status.number())
 }

@@ -1,11 +1,17 @@
 use flip_io::{MemSink, MemSource};
+use held_stars::OpenGate;
 use job_run::{Status, run_job};
 use std::alloc::{AllocError, Global};
 use std::fmt::Write;
 use std::test::Fail;
+use std::thread::Threads;
 
 // What `sphere` without rounds answers to a complex.
-fn descend(alloc: Global, complex: &str) -> Result<(Status, Vec<u8>), AllocError> {
+fn descend<R: Threads + Sync>(
+    rt: &R,
+    alloc: Global,
+    complex: &str,
+) -> Result<(Status, Vec<u8>), AllocError> {
     let mut words = Vec::new(alloc);
     for word in ["sphere", "--rounds", "0"] {
         words.push(String::from_str(alloc, word)?)?;
@@ -13,7 +19,8 @@ fn descend(alloc: Global, complex: &str) -> Result<(Status, Vec<u8>), AllocError
     let bytes = complex.as_bytes().to_vec(alloc)?;
     let mut source = MemSource::new(bytes, 4096, Vec::new(alloc));
     let mut sink = MemSink::new(alloc, 10_000, 4096, Vec::new(alloc))?;
-    let answer = run_job(alloc, &words, &mut source, &mut sink);
+    let mut gates = [OpenGate; 16];
+    let answer = run_job(rt, alloc, &words, &mut source, &mut sink, &mut gates);
     Ok((answer.status, sink.bytes().to_vec(alloc)?))
 }
 
@@ -32,7 +39,7 @@ fn polygon(alloc: Global, last: u16) -> Result<String, Fail> {
 fn polygons_descend_to_triangles(rt: HostRuntime) -> Result<(), Fail> {
     for last in 3u16..201 {
         let text = polygon(rt.alloc(), last)?;
-        let (status, answer) = descend(rt.alloc(), &text)?;
+        let (status, answer) = descend(&rt, rt.alloc(), &text)?;
         assert_eq!(rt; status, Status::Yes, "at {last} vertices");
         let begins = format!(in rt.alloc();
             "yes\nrounds 0\nbistellar 1 sphere\nflips {}\n",
@@ -71,7 +78,7 @@ fn cross_polytope(alloc: Global, dim: u8, facets: u16) -> Result<String, Fail> {
 fn no_flip_makes_a_cross_polytope_smaller(rt: HostRuntime) -> Result<(), Fail> {
     for (dim, facets) in [(2u8, 8u16), (3, 16), (4, 32), (5, 64), (6, 128)] {
         let text = cross_polytope(rt.alloc(), dim, facets)?;
-        let (status, answer) = descend(rt.alloc(), &text)?;
+        let (status, answer) = descend(&rt, rt.alloc(), &text)?;
         assert_eq!(rt; status, Status::Undecided, "at dimension {dim}");
         let whole = format!(in rt.alloc(); "undecided\nrounds 0\nflips 0\nfacets {facets}\n")?;
         assert_eq!(rt; answer.as_slice(), whole.as_bytes());

@@ -17,24 +17,23 @@ use Rattle.job_run.specs.TraceTexts.{trace_answer}
 use Rattle.job_run.specs.Faults.{of_trace, fault_line}
 use Rattle.job_run.specs.Readings.{Reading, input_of, Alone, complex_of}
 use Rattle.job_run.specs.Descriptions.{Describes}
-use Rattle.job_run.specs.Spheres.{TellsObstacle, TellsCertified, TellsCertificate, TellsDescent, TellsCycle}
+use Rattle.job_run.specs.Spheres.{TellsObstacle, TellsCertified, TellsCertificate, TellsSearch, TellsCycle}
 use Rattle.job_run.specs.declared.fault.Fault.{Fault}
 use Rattle.job_run.specs.declared.fault.Fault.TheVariants as fault
 use Rattle.trace_text.specs.Traces.{Trace, names}
 use Rattle.trace_text.specs.Grammar.{trace_of, Reading as TraceReading}
 use Rattle.trace_text.specs.declared.fault.TraceFault.{TraceFault}
 use Rattle.job_run.specs.Traced.{opened_for, end_of, is_clean, IsTraced, IsTraceRun}
-use Rattle.job_run.specs.Answers.{IsOf, limit_of, IsJob, IsVerdict, IsReplayed, IsTraceAnswer, IsInfoAnswer, TellsFacts, IsSphereAnswer, EndsDescent, FitsJob, FitsSphere, DecidesJob, AsksForDescent, HasVerdict, MayEnd, IsDone, HasFault, HasSphereFault, Refuses, IsJudged, IsFound, IsAnswer, Same, AnswerIsOne, RunsClean, TellsReport, NamesNoJob, FitsWords, EndsJob, RefusesWords, IsDecided, Answered, BegunWith}
+use Rattle.job_run.specs.Answers.{IsOf, limit_of, IsJob, IsVerdict, IsReplayed, IsTraceAnswer, IsInfoAnswer, TellsFacts, IsSphereAnswer, EndsSearch, FitsJob, DecidesJob, AsksForSphere, HasVerdict, MayEnd, Headline, Tells, IsInput, IsDone, HasFault, Refuses, IsJudged, IsFound, IsAnswer, Same, Determined, AnswerIsOne, RunsClean, TellsReport, NamesNoJob, FitsWords, EndsJob, RefusesWords, IsDecided, Answered, BegunWith}
 use Rattle.job_run.specs.declared.job.Job.{Job}
 use Rattle.job_run.specs.declared.job.Job.TheVariants as job
 use Rattle.job_run.specs.declared.job.JobReport.{JobReport}
-use Rattle.job_run.specs.declared.job.JobReport.TheVariants as report
+use Rattle.job_run.specs.declared.job.JobReport.TheVariants as job_report
 use Rattle.job_run.specs.declared.job.Status.{Status}
-use Rattle.job_run.specs.declared.job.Status.TheVariants.{Yes, No, Undecided, Usage, BadInput}
+use Rattle.job_run.specs.declared.job.Status.TheVariants.{Yes, No, Undecided, Usage, BadInput, NoMemory}
 use Rattle.flip_world.proofs.OneStep.{runs_one}
 use Rattle.job_run.proofs.Describing.{same_description}
-use Rattle.job_run.proofs.Obstructed.{none_or_obstacle}
-use Rattle.job_run.proofs.Led.{same_sphere, sphere_fits, sphere_ends, sphere_no, sphere_yes, sphere_descent, cycle_yes}
+use Rattle.job_run.proofs.Searched.{same_sphere, sphere_fits, sphere_ends, sphere_no, sphere_yes, sphere_search, cycle_yes}
 use Rattle.job_run.proofs.Replays.{same_verdict, yes_shows, shown_yes, verdict_decided}
 
 -- what follows from a fact of a result
@@ -99,7 +98,7 @@ same_run bytes s t xs ys c d a b =
 same_trace : (bytes : List ℕ) (s t : Status) (xs ys : List ℕ) (p q : JobReport) → IsTraceAnswer bytes s xs p → IsTraceAnswer bytes t ys q → Same s t xs ys p q
 same_trace bytes s t xs ys p q a b =
     let e : SameEnd s t xs ys a.last b.last = same_run bytes s t xs ys a.last b.last a.run b.run in
-    record { statuses = e.statuses; texts = e.texts; reports = a.reports ∙ ap (λ (c : Core). report.Trace c) e.lasts ∙ sym b.reports }
+    record { statuses = e.statuses; texts = e.texts; reports = a.reports ∙ ap (λ (c : Core). job_report.Trace c) e.lasts ∙ sym b.reports }
 
 -- ---- complexes
 
@@ -130,25 +129,24 @@ same_complex_fault bytes e f a b = one (complex_of bytes) a b
     one : (r : Alone) → r ≡ Err e → r ≡ Err f → e ≡ f
     one r p q = cc
 
-same_sphere_fault : (plan : Numbers) (bytes : List ℕ) (e f : Fault) → HasSphereFault plan bytes e → HasSphereFault plan bytes f → e ≡ f
-same_sphere_fault plan bytes e f (inl a) (inl b) = same_complex_fault bytes e f a b
-same_sphere_fault plan bytes e f (inl a) (inr b) = absurd (no_complex bytes e b.none.complex a b.none.input)
-same_sphere_fault plan bytes e f (inr a) (inl b) = absurd (no_complex bytes f a.none.complex b a.none.input)
-same_sphere_fault plan bytes e f (inr a) (inr b) = a.is_form ∙ sym b.is_form
-
-sphere_faultless : (plan : Numbers) (bytes : List ℕ) (e : Fault) (s : Status) (xs : List ℕ) (p : JobReport) → HasSphereFault plan bytes e → IsSphereAnswer plan bytes s xs p → ⊥
-sphere_faultless plan bytes e s xs p (inl f) (inl a) = no_complex bytes e a.obstacle.complex f a.obstacle.input
-sphere_faultless plan bytes e s xs p (inl f) (inr a) = no_complex bytes e a.descent.none.complex f a.descent.none.input
-sphere_faultless plan bytes e s xs p (inr f) (inl a) = none_or_obstacle bytes xs f.none a.obstacle
-sphere_faultless plan bytes e s xs p (inr f) (inr a) = f.rounds a.rounds
+sphere_faultless : (plan : Numbers) (bytes : List ℕ) (e : Fault) (s : Status) (xs : List ℕ) (p : JobReport) → complex_of bytes ≡ Err e → IsSphereAnswer plan bytes s xs p → ⊥
+sphere_faultless plan bytes e s xs p f (inl a) = no_complex bytes e a.obstacle.complex f a.obstacle.input
+sphere_faultless plan bytes e s xs p f (inr a) = no_complex bytes e a.told.none.complex f a.told.none.input
 
 -- ---- any job
 
-same_done : (j : Job) (bytes : List ℕ) (s t : Status) (xs ys : List ℕ) (p q : JobReport) → IsDone j bytes s xs p → IsDone j bytes t ys q → Same s t xs ys p q
-same_done job.Replay bytes s t xs ys p q a b = same_replay bytes s t xs ys p q a b
-same_done job.Trace bytes s t xs ys p q a b = same_trace bytes s t xs ys p q a b
-same_done job.Info bytes s t xs ys p q a b = same_info bytes s t xs ys p q a b
-same_done (job.Sphere plan) bytes s t xs ys p q a b = same_sphere plan bytes s t xs ys p q a b
+-- a job that makes no rounds
+abbrev IsFixed : Job → Type 0
+IsFixed job.Replay = Unit {0}
+IsFixed job.Trace = Unit {0}
+IsFixed job.Info = Unit {0}
+IsFixed (job.Sphere plan) = plan.rounds ≡ 0
+
+same_done : (j : Job) (bytes : List ℕ) (s t : Status) (xs ys : List ℕ) (p q : JobReport) → IsFixed j → IsDone j bytes s xs p → IsDone j bytes t ys q → Same s t xs ys p q
+same_done job.Replay bytes s t xs ys p q z a b = same_replay bytes s t xs ys p q a b
+same_done job.Trace bytes s t xs ys p q z a b = same_trace bytes s t xs ys p q a b
+same_done job.Info bytes s t xs ys p q z a b = same_info bytes s t xs ys p q a b
+same_done (job.Sphere plan) bytes s t xs ys p q z a b = same_sphere plan bytes s t xs ys p q z a b
 
 -- what is refused for a fault is refused alike
 same_refusal : (e f : Fault) (s t : Status) (xs ys : List ℕ) (p q : JobReport) → e ≡ f → Refuses e s xs p → Refuses f t ys q → Same s t xs ys p q
@@ -165,7 +163,7 @@ same_fault job.Trace bytes e f a b = a.2 ∙ ap of_trace (one (trace_of bytes) a
     one : (r : TraceReading Trace) (i k : TraceFault) → r ≡ Err i → r ≡ Err k → i ≡ k
     one r i k p q = cc
 same_fault job.Info bytes e f a b = same_complex_fault bytes e f a b
-same_fault (job.Sphere plan) bytes e f a b = same_sphere_fault plan bytes e f a b
+same_fault (job.Sphere plan) bytes e f a b = same_complex_fault bytes e f a b
 
 -- a trace that was read has no fault
 no_trace : (bytes : List ℕ) (e : TraceFault) (t : Trace) → trace_of bytes ≡ Err e → trace_of bytes ≡ Ok t → ⊥
@@ -188,17 +186,17 @@ faultless job.Trace bytes e s xs p f a = no_trace bytes f.0 a.run.trace f.1 a.ru
 faultless job.Info bytes e s xs p f a = no_complex bytes e a.facts.complex f a.facts.input
 faultless (job.Sphere plan) bytes e s xs p f a = sphere_faultless plan bytes e s xs p f a
 
-same_judgement : (j : Job) (bytes : List ℕ) (s t : Status) (xs ys : List ℕ) (p q : JobReport) → IsJudged j bytes s xs p → IsJudged j bytes t ys q → Same s t xs ys p q
-same_judgement j bytes s t xs ys p q (inl a) (inl b) = same_refusal a.first b.first s t xs ys p q (same_fault j bytes a.first b.first a.has b.has) a.refused b.refused
-same_judgement j bytes s t xs ys p q (inl a) (inr b) = absurd (faultless j bytes a.first t ys q a.has b)
-same_judgement j bytes s t xs ys p q (inr a) (inl b) = absurd (faultless j bytes b.first s xs p b.has a)
-same_judgement j bytes s t xs ys p q (inr a) (inr b) = same_done j bytes s t xs ys p q a b
+same_judgement : (j : Job) (bytes : List ℕ) (s t : Status) (xs ys : List ℕ) (p q : JobReport) → IsFixed j → IsJudged j bytes s xs p → IsJudged j bytes t ys q → Same s t xs ys p q
+same_judgement j bytes s t xs ys p q z (inl a) (inl b) = same_refusal a.first b.first s t xs ys p q (same_fault j bytes a.first b.first a.has b.has) a.refused b.refused
+same_judgement j bytes s t xs ys p q z (inl a) (inr b) = absurd (faultless j bytes a.first t ys q a.has b)
+same_judgement j bytes s t xs ys p q z (inr a) (inl b) = absurd (faultless j bytes b.first s xs p b.has a)
+same_judgement j bytes s t xs ys p q z (inr a) (inr b) = same_done j bytes s t xs ys p q z a b
 
-same_finding : (j : Job) (bytes : List ℕ) (s t : Status) (xs ys : List ℕ) (p q : JobReport) → IsFound j bytes s xs p → IsFound j bytes t ys q → Same s t xs ys p q
-same_finding j bytes s t xs ys p q (inl a) (inl b) = same_refusal fault.TooLong fault.TooLong s t xs ys p q refl a.refused b.refused
-same_finding j bytes s t xs ys p q (inl a) (inr b) = absurd (omega (arith, a.long, b.short))
-same_finding j bytes s t xs ys p q (inr a) (inl b) = absurd (omega (arith, b.long, a.short))
-same_finding j bytes s t xs ys p q (inr a) (inr b) = same_judgement j bytes s t xs ys p q a.judged b.judged
+same_finding : (j : Job) (bytes : List ℕ) (s t : Status) (xs ys : List ℕ) (p q : JobReport) → IsFixed j → IsFound j bytes s xs p → IsFound j bytes t ys q → Same s t xs ys p q
+same_finding j bytes s t xs ys p q z (inl a) (inl b) = same_refusal fault.TooLong fault.TooLong s t xs ys p q refl a.refused b.refused
+same_finding j bytes s t xs ys p q z (inl a) (inr b) = absurd (omega (arith, a.long, b.short))
+same_finding j bytes s t xs ys p q z (inr a) (inl b) = absurd (omega (arith, b.long, a.short))
+same_finding j bytes s t xs ys p q z (inr a) (inr b) = same_judgement j bytes s t xs ys p q z a.judged b.judged
 
 -- what was asked for is one job
 same_of : (asked : Asked) (i j : Job) → IsOf asked i → IsOf asked j → i ≡ j
@@ -228,13 +226,19 @@ same_job words i j a b =
     let P : Asked → Type 0 = λ x. IsOf x i in
     same_of b.asked i j (subst P (same_asked (job_at words) a.asked b.asked a.asks b.asks) a.is) b.is
 
+fixed_of : (words : List (List ℕ)) (j : Job) → Determined words → IsJob words j → IsFixed j
+fixed_of words job.Replay d n = tt
+fixed_of words job.Trace d n = tt
+fixed_of words job.Info d n = tt
+fixed_of words (job.Sphere plan) d n = d plan n
+
 pub answer_is_one : AnswerIsOne
-answer_is_one words bytes s t xs ys p q (inl a) (inl b) = record { statuses = a.is_usage ∙ sym b.is_usage; texts = a.says ∙ sym b.says; reports = a.reports ∙ sym b.reports }
-answer_is_one words bytes s t xs ys p q (inl a) (inr b) = absurd (a.other b.job b.named)
-answer_is_one words bytes s t xs ys p q (inr a) (inl b) = absurd (b.other a.job a.named)
-answer_is_one words bytes s t xs ys p q (inr a) (inr b) =
+answer_is_one words bytes s t xs ys p q d (inl a) (inl b) = record { statuses = a.is_usage ∙ sym b.is_usage; texts = a.says ∙ sym b.says; reports = a.reports ∙ sym b.reports }
+answer_is_one words bytes s t xs ys p q d (inl a) (inr b) = absurd (a.other b.job b.named)
+answer_is_one words bytes s t xs ys p q d (inr a) (inl b) = absurd (b.other a.job a.named)
+answer_is_one words bytes s t xs ys p q d (inr a) (inr b) =
     let P : Job → Type 0 = λ j. IsFound j bytes t ys q in
-    same_finding a.job bytes s t xs ys p q a.answer (subst P (same_job words b.job a.job b.named a.named) b.answer)
+    same_finding a.job bytes s t xs ys p q (fixed_of words a.job d a.named) a.answer (subst P (same_job words b.job a.job b.named a.named) b.answer)
 
 -- ---- the answer of one job
 
@@ -350,24 +354,17 @@ facts_of words bytes s xs p n e a = (decided_done job.Info bytes s xs p (answer_
 sphere_of : (words : List (List ℕ)) (plan : Numbers) (bytes : List ℕ) (s : Status) (xs : List ℕ) (p : JobReport) → IsJob words (job.Sphere plan) → HasVerdict s → IsAnswer words bytes s xs p → IsSphereAnswer plan bytes s xs p
 sphere_of words plan bytes s xs p n v a = (decided_done (job.Sphere plan) bytes s xs p (answer_of words (job.Sphere plan) bytes s xs p n a) (not_bad s v)).1
 
-cycle_found : (plan : Numbers) (bytes : List ℕ) (s : Status) (xs : List ℕ) (p : JobReport) → plan.rounds ≡ 0 → TellsCycle bytes → IsFound (job.Sphere plan) bytes s xs p → s ≡ Yes
-cycle_found plan bytes s xs p r h (inl a) = absurd (omega (arith, a.long, h.short))
-cycle_found plan bytes s xs p r h (inr a) = judged a.judged
+cycle_found : (plan : Numbers) (bytes : List ℕ) (s : Status) (xs : List ℕ) (p : JobReport) → TellsCycle bytes → IsFound (job.Sphere plan) bytes s xs p → s ≡ Yes
+cycle_found plan bytes s xs p h (inl a) = absurd (omega (arith, a.long, h.short))
+cycle_found plan bytes s xs p h (inr a) = judged a.judged
   where
-    faulty : (e : Fault) → HasSphereFault plan bytes e → ⊥
-    faulty e (inl f) = no_complex bytes e h.complex f h.input
-    faulty e (inr f) = f.rounds r
-
     judged : IsJudged (job.Sphere plan) bytes s xs p → s ≡ Yes
-    judged (inl b) = absurd (faulty b.first b.has)
+    judged (inl b) = absurd (no_complex bytes b.first h.complex b.has h.input)
     judged (inr b) = cycle_yes plan bytes s xs p h b
 
-verdict_of : (plan : Numbers) (s : Status) → EndsDescent plan s → HasVerdict s
-verdict_of plan s h = ends h.ends
-  where
-    ends : (s ≡ Yes) ⊎ (s ≡ Undecided) → HasVerdict s
-    ends (inl y) = inl (inl y)
-    ends (inr u) = inr u
+verdict_of : (s : Status) → EndsSearch s → HasVerdict s
+verdict_of s (inl y) = inl (inl y)
+verdict_of s (inr u) = inr u
 
 -- ---- what words alone tell
 
@@ -382,15 +379,15 @@ no_usage s (inl (inl (inr n))) e = let z : No ≡ Usage = sym n ∙ e in cc
 no_usage s (inl (inr u)) e = let z : Undecided ≡ Usage = sym u ∙ e in cc
 no_usage s (inr b) e = let z : BadInput ≡ Usage = sym b ∙ e in cc
 
-sphere_verdict : (plan : Numbers) (s : Status) → (s ≡ No) ⊎ EndsDescent plan s → HasVerdict s
-sphere_verdict plan s (inl n) = inl (inr n)
-sphere_verdict plan s (inr h) = verdict_of plan s h
+sphere_verdict : (s : Status) → (s ≡ No) ⊎ EndsSearch s → HasVerdict s
+sphere_verdict s (inl n) = inl (inr n)
+sphere_verdict s (inr h) = verdict_of s h
 
 verdict : (j : Job) (s : Status) → MayEnd j s → HasVerdict s
 verdict job.Replay s d = inl d
 verdict job.Trace s d = inl d
 verdict job.Info s d = inl (inl d)
-verdict (job.Sphere plan) s d = sphere_verdict plan s d
+verdict (job.Sphere plan) s d = sphere_verdict s d
 
 ended : (j : Job) (s : Status) (p : JobReport) → EndsJob j s p → HasVerdict s ⊎ (s ≡ BadInput)
 ended j s p (inl d) = inl (verdict j s d.decided)
@@ -419,22 +416,18 @@ not_undecided : (s : Status) → IsDecided s → s ≡ Undecided → ⊥
 not_undecided s (inl y) e = let z : Yes ≡ Undecided = sym y ∙ e in cc
 not_undecided s (inr n) e = let z : No ≡ Undecided = sym n ∙ e in cc
 
-sphere_undecided : (words : List (List ℕ)) (plan : Numbers) (s : Status) → IsJob words (job.Sphere plan) → (s ≡ No) ⊎ EndsDescent plan s → s ≡ Undecided → AsksForDescent words
-sphere_undecided words plan s n (inl o) e = absurd (not_undecided s (inr o) e)
-sphere_undecided words plan s n (inr h) e = record { plan = plan; named = n; rounds = h.rounds }
-
-job_undecided : (words : List (List ℕ)) (j : Job) (s : Status) → IsJob words j → MayEnd j s → s ≡ Undecided → AsksForDescent words
+job_undecided : (words : List (List ℕ)) (j : Job) (s : Status) → IsJob words j → MayEnd j s → s ≡ Undecided → AsksForSphere words
 job_undecided words job.Replay s n d e = absurd (not_undecided s d e)
 job_undecided words job.Trace s n d e = absurd (not_undecided s d e)
 job_undecided words job.Info s n d e = absurd (not_undecided s (inl d) e)
-job_undecided words (job.Sphere plan) s n d e = sphere_undecided words plan s n d e
+job_undecided words (job.Sphere plan) s n d e = record { plan = plan; named = n }
 
-end_undecided : (words : List (List ℕ)) (j : Job) (s : Status) (p : JobReport) → IsJob words j → EndsJob j s p → s ≡ Undecided → AsksForDescent words
+end_undecided : (words : List (List ℕ)) (j : Job) (s : Status) (p : JobReport) → IsJob words j → EndsJob j s p → s ≡ Undecided → AsksForSphere words
 end_undecided words j s p n (inl d) e = job_undecided words j s n d.decided e
 end_undecided words j s p n (inr b) e = let z : BadInput ≡ Undecided = sym b.is_bad ∙ e in cc
 
--- Undecided is said to words that ask for a descent
-pub undecided_words : (words : List (List ℕ)) (s : Status) (xs : List ℕ) (p : JobReport) → FitsWords words s xs p → s ≡ Undecided → AsksForDescent words
+-- Undecided is said to words that ask for `sphere`
+pub undecided_words : (words : List (List ℕ)) (s : Status) (xs : List ℕ) (p : JobReport) → FitsWords words s xs p → s ≡ Undecided → AsksForSphere words
 undecided_words words s xs p (inl a) e = let z : Usage ≡ Undecided = sym a.is_usage ∙ e in cc
 undecided_words words s xs p (inr a) e = end_undecided words a.job s p a.named a.ends e
 
@@ -447,22 +440,27 @@ pub fitting_words : (words : List (List ℕ)) (s : Status) (xs : List ℕ) (p : 
 fitting_words words s xs p (inl a) j n v = absurd (a.other j n)
 fitting_words words s xs p (inr a) j n v = let P : Job → Type 0 = λ i. EndsJob i s p in end_fits j s p (subst P (same_job words a.job j a.named n) a.ends) v
 
--- other words have no report
-sphere_silent : (words : List (List ℕ)) (plan : Numbers) (s : Status) (p : JobReport) → IsJob words (job.Sphere plan) → (AsksForDescent words → ⊥) → (s ≡ No) ⊎ EndsDescent plan s → FitsSphere s p → p ≡ report.Nothing
-sphere_silent words plan s p n o (inl i) h = h.no i
-sphere_silent words plan s p n o (inr i) h = absurd (o (record { plan = plan; named = n; rounds = i.rounds }))
+-- and is a verdict of that job
+end_ends : (j : Job) (s : Status) (p : JobReport) → EndsJob j s p → HasVerdict s → MayEnd j s
+end_ends j s p (inl d) v = d.decided
+end_ends j s p (inr b) v = absurd (not_bad s v b.is_bad)
 
-job_silent : (words : List (List ℕ)) (j : Job) (s : Status) (p : JobReport) → IsJob words j → (IsJob words job.Trace → ⊥) → (AsksForDescent words → ⊥) → DecidesJob j s p → p ≡ report.Nothing
+ending_words : (words : List (List ℕ)) (s : Status) (xs : List ℕ) (p : JobReport) → FitsWords words s xs p → (j : Job) → IsJob words j → HasVerdict s → MayEnd j s
+ending_words words s xs p (inl a) j n v = absurd (a.other j n)
+ending_words words s xs p (inr a) j n v = let P : Job → Type 0 = λ i. EndsJob i s p in end_ends j s p (subst P (same_job words a.job j a.named n) a.ends) v
+
+-- other words have no report
+job_silent : (words : List (List ℕ)) (j : Job) (s : Status) (p : JobReport) → IsJob words j → (IsJob words job.Trace → ⊥) → (AsksForSphere words → ⊥) → DecidesJob j s p → p ≡ job_report.Nothing
 job_silent words job.Replay s p n t o d = d.fits
 job_silent words job.Trace s p n t o d = absurd (t n)
 job_silent words job.Info s p n t o d = d.fits
-job_silent words (job.Sphere plan) s p n t o d = sphere_silent words plan s p n o d.decided d.fits
+job_silent words (job.Sphere plan) s p n t o d = absurd (o (record { plan = plan; named = n }))
 
-end_silent : (words : List (List ℕ)) (j : Job) (s : Status) (p : JobReport) → IsJob words j → (IsJob words job.Trace → ⊥) → (AsksForDescent words → ⊥) → EndsJob j s p → p ≡ report.Nothing
+end_silent : (words : List (List ℕ)) (j : Job) (s : Status) (p : JobReport) → IsJob words j → (IsJob words job.Trace → ⊥) → (AsksForSphere words → ⊥) → EndsJob j s p → p ≡ job_report.Nothing
 end_silent words j s p n t o (inl d) = job_silent words j s p n t o d
 end_silent words j s p n t o (inr b) = b.reports
 
-pub silent_words : (words : List (List ℕ)) (s : Status) (xs : List ℕ) (p : JobReport) → FitsWords words s xs p → (IsJob words job.Trace → ⊥) → (AsksForDescent words → ⊥) → p ≡ report.Nothing
+pub silent_words : (words : List (List ℕ)) (s : Status) (xs : List ℕ) (p : JobReport) → FitsWords words s xs p → (IsJob words job.Trace → ⊥) → (AsksForSphere words → ⊥) → p ≡ job_report.Nothing
 silent_words words s xs p (inl a) t o = a.reports
 silent_words words s xs p (inr a) t o = end_silent words a.job s p a.named t o a.ends
 
@@ -536,16 +534,57 @@ obstacle_is_known None old new words plan s xs p h w n e = tt
 obstacle_is_known (Some bytes) old new words plan s xs p h w n e = (xs, sphere_no plan bytes s xs p (sphere_of words plan bytes s xs p n (inl (inr e)) h) e, w)
 
 -- a Yes of `sphere` that was appended is a certificate
-pub certificate_is_known : (known old new : Option (List ℕ)) (words : List (List ℕ)) (plan : Numbers) (s : Status) (xs : List ℕ) (p : JobReport) → IfSome known (λ bytes. IsAnswer words bytes s xs p) → Appends old new xs → IsJob words (job.Sphere plan) → s ≡ Yes → IfSome known (λ bytes. Answered old new (λ text. TellsCertificate bytes text))
+pub certificate_is_known : (known old new : Option (List ℕ)) (words : List (List ℕ)) (plan : Numbers) (s : Status) (xs : List ℕ) (p : JobReport) → IfSome known (λ bytes. IsAnswer words bytes s xs p) → Appends old new xs → IsJob words (job.Sphere plan) → s ≡ Yes → IfSome known (λ bytes. Answered old new (λ text. TellsCertificate bytes text p))
 certificate_is_known None old new words plan s xs p h w n e = tt
 certificate_is_known (Some bytes) old new words plan s xs p h w n e = (xs, sphere_yes plan bytes s xs p (sphere_of words plan bytes s xs p n (inl (inl e)) h) e, w)
 
--- a Yes and an Undecided of `sphere` report the descent
-pub descent_is_known : (known : Option (List ℕ)) (words : List (List ℕ)) (plan : Numbers) (s : Status) (xs : List ℕ) (p : JobReport) → IfSome known (λ bytes. IsAnswer words bytes s xs p) → IsJob words (job.Sphere plan) → EndsDescent plan s → IfSome known (λ bytes. TellsDescent bytes plan.room p)
-descent_is_known None words plan s xs p h n e = tt
-descent_is_known (Some bytes) words plan s xs p h n e = sphere_descent plan bytes s xs p (sphere_of words plan bytes s xs p n (verdict_of plan s e) h) e
+-- a Yes and an Undecided of `sphere` report a search
+pub search_is_known : (known : Option (List ℕ)) (words : List (List ℕ)) (plan : Numbers) (s : Status) (xs : List ℕ) (p : JobReport) → IfSome known (λ bytes. IsAnswer words bytes s xs p) → IsJob words (job.Sphere plan) → EndsSearch s → IfSome known (λ bytes. TellsSearch bytes plan p)
+search_is_known None words plan s xs p h n e = tt
+search_is_known (Some bytes) words plan s xs p h n e = sphere_search plan bytes s xs p (sphere_of words plan bytes s xs p n (verdict_of s e) h) e
 
 -- a complex of dimension 1 gets a Yes
-pub circle_is_known : (known : Option (List ℕ)) (words : List (List ℕ)) (s : Status) (xs : List ℕ) (p : JobReport) → IfSome known (λ bytes. IsAnswer words bytes s xs p) → AsksForDescent words → IfSome known (λ bytes. TellsCycle bytes → s ≡ Yes)
+pub circle_is_known : (known : Option (List ℕ)) (words : List (List ℕ)) (s : Status) (xs : List ℕ) (p : JobReport) → IfSome known (λ bytes. IsAnswer words bytes s xs p) → AsksForSphere words → IfSome known (λ bytes. TellsCycle bytes → s ≡ Yes)
 circle_is_known None words s xs p h n = tt
-circle_is_known (Some bytes) words s xs p h n = λ t. cycle_found n.plan bytes s xs p n.rounds t (answer_of words (job.Sphere n.plan) bytes s xs p n.named h)
+circle_is_known (Some bytes) words s xs p h n = λ t. cycle_found n.plan bytes s xs p t (answer_of words (job.Sphere n.plan) bytes s xs p n.named h)
+
+-- ---- the headline
+
+headline_of : (words : List (List ℕ)) (j : Job) (bytes : List ℕ) (s : Status) (xs : List ℕ) (p : JobReport) → IsJob words j → MayEnd j s → IsAnswer words bytes s xs p → Headline j bytes s xs p
+headline_of words job.Replay bytes s xs p n v a = (yes_is words bytes s xs p n a).0
+headline_of words job.Trace bytes s xs p n v a = history_of words bytes s xs p n v a
+headline_of words job.Info bytes s xs p n v a = tt
+headline_of words (job.Sphere plan) bytes s xs p n v a =
+    let h : IsSphereAnswer plan bytes s xs p = sphere_of words plan bytes s xs p n (sphere_verdict s v) a in
+    record { told = sphere_search plan bytes s xs p h; certificate = sphere_yes plan bytes s xs p h }
+
+-- a verdict that was appended has the headline of its job
+pub headline_is_known : (known old new : Option (List ℕ)) (words : List (List ℕ)) (j : Job) (s : Status) (xs : List ℕ) (p : JobReport) → IfSome known (λ bytes. IsAnswer words bytes s xs p) → FitsWords words s xs p → Appends old new xs → IsJob words j → HasVerdict s → IfSome known (λ bytes. Answered old new (λ text. Headline j bytes s text p))
+headline_is_known None old new words j s xs p h f w n v = tt
+headline_is_known (Some bytes) old new words j s xs p h f w n v = (xs, headline_of words j bytes s xs p n (ending_words words s xs p f j n v) h, w)
+
+-- ---- inputs
+
+input_faultless : (j : Job) (bytes : List ℕ) (e : Fault) → Tells j bytes → HasFault j bytes e → ⊥
+input_faultless job.Replay bytes e t f = no_input bytes e t.0 f t.1
+input_faultless job.Trace bytes e t f = no_trace bytes f.0 t.0 f.1 t.1
+input_faultless job.Info bytes e t f = no_complex bytes e t.0 f t.1
+input_faultless (job.Sphere plan) bytes e t f = no_complex bytes e t.0 f t.1
+
+complete_found : (j : Job) (bytes : List ℕ) (s : Status) (xs : List ℕ) (p : JobReport) → IsInput j bytes → IsFound j bytes s xs p → MayEnd j s
+complete_found j bytes s xs p h (inl a) = absurd (omega (arith, a.long, h.short))
+complete_found j bytes s xs p h (inr a) = judged a.judged
+  where
+    judged : IsJudged j bytes s xs p → MayEnd j s
+    judged (inl b) = absurd (input_faultless j bytes b.first h.tells b.has)
+    judged (inr b) = (done_ends j bytes s xs p b).decided
+
+-- an input of the job that words ask for gets a verdict of this job
+pub complete_is_known : (known : Option (List ℕ)) (words : List (List ℕ)) (j : Job) (s : Status) (xs : List ℕ) (p : JobReport) → IfSome known (λ bytes. IsAnswer words bytes s xs p) → IsJob words j → IfSome known (λ bytes. IsInput j bytes → MayEnd j s ⊎ (s ≡ NoMemory))
+complete_is_known None words j s xs p h n = tt
+complete_is_known (Some bytes) words j s xs p h n = λ t. inl (complete_found j bytes s xs p t (answer_of words j bytes s xs p n h))
+
+-- or there was no memory
+pub memory_is_known : (known : Option (List ℕ)) (j : Job) (s : Status) → s ≡ NoMemory → IfSome known (λ bytes. IsInput j bytes → MayEnd j s ⊎ (s ≡ NoMemory))
+memory_is_known None j s e = tt
+memory_is_known (Some bytes) j s e = λ t. inr e

@@ -5,5 +5,7 @@ pub mod RunKept
 pub mod RunEnd
 pub mod Describing
 pub mod Obstructed
-pub mod Led
+pub mod Reported
+pub mod Searched
+pub mod Quits
 pub mod Answering

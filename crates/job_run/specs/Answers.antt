@@ -1,19 +1,19 @@
 -- What the jobs answer.
-use Rattle.std.specs.Prelude.{◌≡◌, ◌≢◌, true, ℕ, ◌≤◌, ◌<◌, ◌⊎◌, List, length, map, Ok, Err}
+use Rattle.std.specs.Prelude.{◌≡◌, true, ℕ, ◌≤◌, ◌<◌, ◌⊎◌, List, length, map, Ok, Err}
 use Rattle.std.specs.declared.option.Option.{Option}
 use Rattle.std.specs.Io.KnownBytes.{Appends}
 use Rattle.flip_io.specs.Outcomes.{AppendsPrefix}
 use Rattle.complex_core.specs.Spaces.{Space}
-use Rattle.flip_rules.specs.Boundaries.{IsBoundary}
 use Rattle.cert_text.specs.Claims.{Claim}
 use Rattle.cert_replay.specs.Answers.{IsAnswer as IsReplayOf}
 use Rattle.cert_replay.specs.declared.judge.Replayed.{Replayed}
 use Rattle.cert_replay.specs.declared.judge.Replayed.TheVariants.{Valid, Bad, WrongEnd}
-use Rattle.flip_names.specs.Names.{named_flips}
-use Rattle.flip_options.specs.DescentViews.{DescentView, IsDescentOf}
 use Rattle.flip_world.specs.Cores.{Core}
 use Rattle.flip_world.specs.Runs.{Turn, IsRun}
 use Rattle.anneal_plan.specs.Numbers.{Numbers}
+use Rattle.round_run.specs.Gates.{all_quits_at}
+use Rattle.round_run.specs.Reports.{ReportView, IsSphere, IsUndecided}
+use Rattle.report_text.specs.Shown.{told_flips}
 use Rattle.job_words.specs.Jobs.{job_at}
 use Rattle.job_words.specs.declared.job.Job.{Job as Asked}
 use Rattle.job_words.specs.declared.job.JobName.TheVariants as name
@@ -24,14 +24,14 @@ use Rattle.job_run.specs.Texts.{usage_line, replayed_text}
 use Rattle.job_run.specs.Faults.{of_trace, fault_line}
 use Rattle.job_run.specs.Readings.{input_of, complex_of}
 use Rattle.job_run.specs.Descriptions.{Describes}
-use Rattle.job_run.specs.Spheres.{TellsObstacle, TellsNone, TellsDescent, TellsCertificate, found_text, undecided_text}
+use Rattle.job_run.specs.Spheres.{TellsObstacle, TellsCertified, TellsSearch, TellsCertificate, found_text, undecided_text}
 use Rattle.job_run.specs.declared.fault.Fault.{Fault}
 use Rattle.job_run.specs.declared.fault.Fault.TheVariants as fault
 use Rattle.job_run.specs.Traced.{placed, opened_for, end_of, is_clean, IsTraceRun, TellsHistory}
 use Rattle.job_run.specs.declared.job.Job.{Job}
 use Rattle.job_run.specs.declared.job.Job.TheVariants as job
 use Rattle.job_run.specs.declared.job.JobReport.{JobReport}
-use Rattle.job_run.specs.declared.job.JobReport.TheVariants as report
+use Rattle.job_run.specs.declared.job.JobReport.TheVariants as job_report
 use Rattle.job_run.specs.declared.job.Status.{Status}
 use Rattle.job_run.specs.declared.job.Status.TheVariants.{Yes, No, Undecided, Usage, BadInput, ReadFault, WriteFault, NoMemory}
 
@@ -84,13 +84,13 @@ pub record IsReplayed (bytes : List ℕ) (status : Status) (text : List ℕ) (fo
   pub claim : Claim
   pub input : input_of bytes ≡ Ok (start, claim)
   pub verdict : IsVerdict start claim status text
-  pub reports : found ≡ report.Nothing
+  pub reports : found ≡ job_report.Nothing
 
 -- the bytes tell a trace, which comes to this, and the core that it ends with is reported
 pub record IsTraceAnswer (bytes : List ℕ) (status : Status) (text : List ℕ) (found : JobReport) : Type 0 where
   pub last : Core
   pub run : IsTraceRun bytes status text last
-  pub reports : found ≡ report.Trace last
+  pub reports : found ≡ job_report.Trace last
 
 -- the bytes tell a complex, which the text describes
 pub record TellsFacts (bytes text : List ℕ) : Type 0 where
@@ -102,45 +102,43 @@ pub record TellsFacts (bytes text : List ℕ) : Type 0 where
 pub record IsInfoAnswer (bytes : List ℕ) (status : Status) (text : List ℕ) (found : JobReport) : Type 0 where
   pub is_yes : status ≡ Yes
   pub facts : TellsFacts bytes text
-  pub reports : found ≡ report.Nothing
+  pub reports : found ≡ job_report.Nothing
 
 -- No, with the first fact of a sphere that the complex lacks, and nothing else is reported
 pub record IsObstructed (bytes : List ℕ) (status : Status) (text : List ℕ) (found : JobReport) : Type 0 where
   pub is_no : status ≡ No
   pub obstacle : TellsObstacle bytes text
-  pub reports : found ≡ report.Nothing
+  pub reports : found ≡ job_report.Nothing
 
--- Yes, where the descent ends in the boundary of a simplex: its flips in the labels that the names give
-pub record ReachesSphere (d : DescentView) (status : Status) (text : List ℕ) : Type 0 where
+-- Yes, where a descent of the search ended in the boundary of a simplex: its flips in the labels of the complex
+pub record ReachesSphere (k : Space) (plan : Numbers) (r : ReportView) (status : Status) (text : List ℕ) : Type 0 where
   pub is_yes : status ≡ Yes
-  pub boundary : IsBoundary d.end
-  pub says : text ≡ found_text (named_flips d.names d.flips)
+  pub sphere : IsSphere k plan r
+  pub says : text ≡ found_text (length r.rounds) (told_flips r)
 
--- Undecided, where it ends elsewhere
-pub record StaysApart (d : DescentView) (status : Status) (text : List ℕ) : Type 0 where
+-- Undecided, where all rounds were made and no descent did
+pub record StaysApart (k : Space) (plan : Numbers) (r : ReportView) (status : Status) (text : List ℕ) : Type 0 where
   pub is_undecided : status ≡ Undecided
-  pub elsewhere : IsBoundary d.end → ⊥
-  pub says : text ≡ undecided_text (length d.flips) (length d.end.facets)
+  pub spent : IsUndecided k plan r
+  pub says : text ≡ undecided_text (length r.rounds) (length (told_flips r)) (length r.end.facets)
 
-abbrev pub ComesDown : DescentView → Status → List ℕ → Type 0
-ComesDown d status text = ReachesSphere d status text ⊎ StaysApart d status text
+abbrev pub ComesTo : Space → Numbers → ReportView → Status → List ℕ → Type 0
+ComesTo k plan r status text = ReachesSphere k plan r status text ⊎ StaysApart k plan r status text
 
--- the one descent of a complex, which is reported, comes to this
-pub record LeadsDown (k : Space) (room : ℕ) (status : Status) (text : List ℕ) (found : JobReport) : Type 0 where
-  pub descended : DescentView
-  pub descent : IsDescentOf k room descended
-  pub comes : ComesDown descended status text
-  pub reports : found ≡ report.Sphere descended
+-- a search from the complex by the plan, which is reported, comes to this
+pub record Searches (k : Space) (plan : Numbers) (status : Status) (text : List ℕ) (found : JobReport) : Type 0 where
+  pub report : ReportView
+  pub comes : ComesTo k plan report status text
+  pub reports : found ≡ job_report.Sphere report
 
--- no rounds are asked for, and the complex, which lacks no fact of a sphere, comes down to this
-pub record IsLedDown (plan : Numbers) (bytes : List ℕ) (status : Status) (text : List ℕ) (found : JobReport) : Type 0 where
-  pub rounds : plan.rounds ≡ 0
-  pub descent : TellsDescent bytes plan.room found
-  pub comes : ComesDown descent.descended status text
-  pub certificate : status ≡ Yes → TellsCertificate bytes text
+-- the complex lacks no fact of a sphere, and a search from it comes to this
+pub record IsSearched (plan : Numbers) (bytes : List ℕ) (status : Status) (text : List ℕ) (found : JobReport) : Type 0 where
+  pub told : TellsSearch bytes plan found
+  pub comes : ComesTo told.none.complex plan told.report status text
+  pub certificate : status ≡ Yes → TellsCertificate bytes text found
 
 abbrev pub IsSphereAnswer : Numbers → List ℕ → Status → List ℕ → JobReport → Type 0
-IsSphereAnswer plan bytes status text found = IsObstructed bytes status text found ⊎ IsLedDown plan bytes status text found
+IsSphereAnswer plan bytes status text found = IsObstructed bytes status text found ⊎ IsSearched plan bytes status text found
 
 abbrev pub IsDone : Job → List ℕ → Status → List ℕ → JobReport → Type 0
 IsDone job.Replay bytes status text found = IsReplayed bytes status text found
@@ -148,27 +146,18 @@ IsDone job.Trace bytes status text found = IsTraceAnswer bytes status text found
 IsDone job.Info bytes status text found = IsInfoAnswer bytes status text found
 IsDone (job.Sphere plan) bytes status text found = IsSphereAnswer plan bytes status text found
 
--- rounds are asked for, and the complex of the bytes lacks no fact of a sphere: such a one isn't answered yet
-pub record IsUnanswered (plan : Numbers) (bytes : List ℕ) (first : Fault) : Type 0 where
-  pub none : TellsNone bytes
-  pub rounds : plan.rounds ≢ 0
-  pub is_form : first ≡ fault.Form
-
-abbrev pub HasSphereFault : Numbers → List ℕ → Fault → Type 0
-HasSphereFault plan bytes first = (complex_of bytes ≡ Err first) ⊎ IsUnanswered plan bytes first
-
 -- the first fault of the bytes, read as an input of the job
 abbrev pub HasFault : Job → List ℕ → Fault → Type 0
 HasFault job.Replay bytes first = input_of bytes ≡ Err first
 HasFault job.Trace bytes first = (e : TraceFault) × (trace_of bytes ≡ Err e) × (first ≡ of_trace e)
 HasFault job.Info bytes first = complex_of bytes ≡ Err first
-HasFault (job.Sphere plan) bytes first = HasSphereFault plan bytes first
+HasFault (job.Sphere plan) bytes first = complex_of bytes ≡ Err first
 
 -- BadInput, and the line of this fault
 pub record Refuses (first : Fault) (status : Status) (text : List ℕ) (found : JobReport) : Type 0 where
   pub is_bad : status ≡ BadInput
   pub says : text ≡ fault_line first
-  pub reports : found ≡ report.Nothing
+  pub reports : found ≡ job_report.Nothing
 
 pub record IsNoInput (j : Job) (bytes : List ℕ) (status : Status) (text : List ℕ) (found : JobReport) : Type 0 where
   pub first : Fault
@@ -197,7 +186,7 @@ pub record IsUsage (words : List (List ℕ)) (status : Status) (text : List ℕ)
   pub is_usage : status ≡ Usage
   pub other : NamesNoJob words
   pub says : text ≡ usage_line
-  pub reports : found ≡ report.Nothing
+  pub reports : found ≡ job_report.Nothing
 
 pub record IsJobAnswer (words : List (List ℕ)) (bytes : List ℕ) (status : Status) (text : List ℕ) (found : JobReport) : Type 0 where
   pub job : Job
@@ -213,9 +202,13 @@ pub record Same (s t : Status) (xs ys : List ℕ) (p q : JobReport) : Type 0 whe
   pub texts : xs ≡ ys
   pub reports : p ≡ q
 
--- words and input determine status, text and report
+-- the words ask for `sphere` at most without rounds
+abbrev pub Determined : List (List ℕ) → Type 0
+Determined words = (plan : Numbers) → IsJob words (job.Sphere plan) → plan.rounds ≡ 0
+
+-- such words and the input determine status, text and report
 abbrev pub AnswerIsOne : Type 0
-AnswerIsOne = (words : List (List ℕ)) (bytes : List ℕ) (s t : Status) (xs ys : List ℕ) (p q : JobReport) → IsAnswer words bytes s xs p → IsAnswer words bytes t ys q → Same s t xs ys p q
+AnswerIsOne = (words : List (List ℕ)) (bytes : List ℕ) (s t : Status) (xs ys : List ℕ) (p q : JobReport) → Determined words → IsAnswer words bytes s xs p → IsAnswer words bytes t ys q → Same s t xs ys p q
 
 -- ---- what a decided answer tells
 
@@ -234,8 +227,46 @@ pub record TellsReport (bytes text : List ℕ) (found : JobReport) : Type 0 wher
   pub trace : Trace
   pub input : trace_of bytes ≡ Ok trace
   pub last : Core
-  pub reports : found ≡ report.Trace last
+  pub reports : found ≡ job_report.Trace last
   pub history : TellsHistory trace text last
+
+-- ---- the headline
+
+-- Yes or Undecided
+abbrev pub EndsSearch : Status → Type 0
+EndsSearch status = (status ≡ Yes) ⊎ (status ≡ Undecided)
+
+-- a Yes and an Undecided report a search, and a Yes prints its certificate
+pub record ShowsSearch (plan : Numbers) (bytes : List ℕ) (status : Status) (text : List ℕ) (found : JobReport) : Type 0 where
+  pub told : EndsSearch status → TellsSearch bytes plan found
+  pub certificate : status ≡ Yes → TellsCertificate bytes text found
+
+-- the headline of each job: the journal that is reported is one legal history, and a Yes is what its replay shows
+abbrev pub Headline : Job → List ℕ → Status → List ℕ → JobReport → Type 0
+Headline job.Replay bytes status text found = status ≡ Yes → TellsCertified bytes
+Headline job.Trace bytes status text found = TellsReport bytes text found
+Headline job.Info bytes status text found = Unit {0}
+Headline (job.Sphere plan) bytes status text found = ShowsSearch plan bytes status text found
+
+-- how many quits of each worker are reported, counted from 0
+abbrev pub quits_of : JobReport → ℕ → ℕ
+quits_of job_report.Nothing = λ i. 0
+quits_of (job_report.Trace last) = λ i. 0
+quits_of (job_report.Sphere r) = all_quits_at r.rounds
+
+-- ---- an input of a job
+
+-- what the bytes tell, read as an input of the job
+abbrev pub Tells : Job → List ℕ → Type 0
+Tells job.Replay bytes = (x : Space × Claim) × (input_of bytes ≡ Ok x)
+Tells job.Trace bytes = (t : Trace) × (trace_of bytes ≡ Ok t)
+Tells job.Info bytes = (k : Space) × (complex_of bytes ≡ Ok k)
+Tells (job.Sphere plan) bytes = (k : Space) × (complex_of bytes ≡ Ok k)
+
+-- the bytes are an input of the job
+pub record IsInput (j : Job) (bytes : List ℕ) : Type 0 where
+  pub short : length bytes ≤ limit_of j
+  pub tells : Tells j bytes
 
 -- ---- what was written
 
@@ -258,42 +289,37 @@ IsDecided status = (status ≡ Yes) ⊎ (status ≡ No)
 abbrev pub HasVerdict : Status → Type 0
 HasVerdict status = IsDecided status ⊎ (status ≡ Undecided)
 
--- a descent is reported whose end is the boundary of a simplex
-pub record ReportsSphere (found : JobReport) : Type 0 where
-  pub descended : DescentView
-  pub reports : found ≡ report.Sphere descended
-  pub boundary : IsBoundary descended.end
+-- a search by the plan is reported, the last descent of which ended in the boundary of a simplex, and none before it
+pub record ReportsSphere (plan : Numbers) (found : JobReport) : Type 0 where
+  pub report : ReportView
+  pub reports : found ≡ job_report.Sphere report
+  pub sphere : IsSphere report.input plan report
 
--- a descent is reported whose end is none
-pub record ReportsElsewhere (found : JobReport) : Type 0 where
-  pub descended : DescentView
-  pub reports : found ≡ report.Sphere descended
-  pub elsewhere : IsBoundary descended.end → ⊥
+-- a search by the plan is reported that made all rounds, and no descent of which ended in the boundary of a simplex
+pub record ReportsSpent (plan : Numbers) (found : JobReport) : Type 0 where
+  pub report : ReportView
+  pub reports : found ≡ job_report.Sphere report
+  pub spent : IsUndecided report.input plan report
 
 -- what `sphere` reports with each verdict
-pub record FitsSphere (status : Status) (found : JobReport) : Type 0 where
-  pub yes : status ≡ Yes → ReportsSphere found
-  pub no : status ≡ No → found ≡ report.Nothing
-  pub undecided : status ≡ Undecided → ReportsElsewhere found
+pub record FitsSphere (plan : Numbers) (status : Status) (found : JobReport) : Type 0 where
+  pub yes : status ≡ Yes → ReportsSphere plan found
+  pub no : status ≡ No → found ≡ job_report.Nothing
+  pub undecided : status ≡ Undecided → ReportsSpent plan found
 
--- a decided trace reports a core, `sphere` a descent where there is no obstacle, and the other jobs report nothing
+-- a decided trace reports a core, `sphere` a search where there is no obstacle, and the other jobs report nothing
 abbrev pub FitsJob : Job → Status → JobReport → Type 0
-FitsJob job.Replay status found = found ≡ report.Nothing
-FitsJob job.Trace status found = (last : Core) × (found ≡ report.Trace last)
-FitsJob job.Info status found = found ≡ report.Nothing
-FitsJob (job.Sphere plan) status found = FitsSphere status found
+FitsJob job.Replay status found = found ≡ job_report.Nothing
+FitsJob job.Trace status found = (last : Core) × (found ≡ job_report.Trace last)
+FitsJob job.Info status found = found ≡ job_report.Nothing
+FitsJob (job.Sphere plan) status found = FitsSphere plan status found
 
--- Yes or Undecided, and no rounds
-pub record EndsDescent (plan : Numbers) (status : Status) : Type 0 where
-  pub rounds : plan.rounds ≡ 0
-  pub ends : (status ≡ Yes) ⊎ (status ≡ Undecided)
-
--- the verdicts of a job: `info` has no No, and Undecided is only said of a descent
+-- the verdicts of a job: `info` has no No, and Undecided is only said of a search
 abbrev pub MayEnd : Job → Status → Type 0
 MayEnd job.Replay status = IsDecided status
 MayEnd job.Trace status = IsDecided status
 MayEnd job.Info status = status ≡ Yes
-MayEnd (job.Sphere plan) status = (status ≡ No) ⊎ EndsDescent plan status
+MayEnd (job.Sphere plan) status = (status ≡ No) ⊎ EndsSearch status
 
 pub record DecidesJob (j : Job) (status : Status) (found : JobReport) : Type 0 where
   pub decided : MayEnd j status
@@ -301,7 +327,7 @@ pub record DecidesJob (j : Job) (status : Status) (found : JobReport) : Type 0 w
 
 pub record IsBad (status : Status) (found : JobReport) : Type 0 where
   pub is_bad : status ≡ BadInput
-  pub reports : found ≡ report.Nothing
+  pub reports : found ≡ job_report.Nothing
 
 -- what an answer of a job says of the job alone
 abbrev pub EndsJob : Job → Status → JobReport → Type 0
@@ -312,11 +338,10 @@ pub record IsOfJob (words : List (List ℕ)) (status : Status) (found : JobRepor
   pub named : IsJob words job
   pub ends : EndsJob job status found
 
--- the words ask for `sphere` without rounds
-pub record AsksForDescent (words : List (List ℕ)) : Type 0 where
+-- the words ask for `sphere`
+pub record AsksForSphere (words : List (List ℕ)) : Type 0 where
   pub plan : Numbers
   pub named : IsJob words (job.Sphere plan)
-  pub rounds : plan.rounds ≡ 0
 
 -- what an answer says of the words alone
 abbrev pub FitsWords : List (List ℕ) → Status → List ℕ → JobReport → Type 0

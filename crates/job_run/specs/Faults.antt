@@ -8,7 +8,7 @@ use Rattle.cert_text.specs.declared.fault.CertFault.TheVariants as cert
 use Rattle.trace_text.specs.declared.fault.TraceFault.{TraceFault}
 use Rattle.trace_text.specs.declared.fault.TraceFault.TheVariants as trace
 use Rattle.job_run.specs.declared.fault.Fault.{Fault}
-use Rattle.job_run.specs.declared.fault.Fault.TheVariants.{TooLong, Syntax, Label, Twice, Size, NotPure, TooManyFacets, TooManyLabels, Count, Number, Form, Memory}
+use Rattle.job_run.specs.declared.fault.Fault.TheVariants.{TooLong, Syntax, Label, Twice, Size, NotPure, TooManyFacets, TooManyLabels, Count, Number, Memory}
 
 -- ---- the line of a fault
 
@@ -32,7 +32,6 @@ fault_line TooManyFacets = bad_line (codes "too many facets")
 fault_line TooManyLabels = bad_line (codes "too many labels")
 fault_line (Count place) = bad_line_at (codes "count") place
 fault_line (Number place) = bad_line_at (codes "number") place
-fault_line Form = bad_line (codes "form")
 fault_line Memory = []
 
 -- ---- the faults of the parts of an input

@@ -31,8 +31,6 @@ pub(crate) enum Fault {
     Count(usize),
     /// A number out of its range.
     Number(usize),
-    /// A complex that nothing keeps from being led to a sphere, where rounds are asked for.
-    Form,
     /// Memory ran out.
     Memory,
 }
@@ -118,7 +116,6 @@ pub(crate) fn fault_line(alloc: Global, fault: Fault) -> Result<String, AllocErr
         Fault::TooManyLabels => line(alloc, "too many labels"),
         Fault::Count(place) => line_at(alloc, "count", place),
         Fault::Number(place) => line_at(alloc, "number", place),
-        Fault::Form => line(alloc, "form"),
         Fault::Memory => Err(AllocError),
     }
 }

@@ -1,10 +1,11 @@
 // The jobs, from words and bytes to an answer.
 ghost use Rattle.std.specs.Prelude.{◌≡◌, ◌↔◌, ◌⊎◌, ◌≤◌, IfOk, IfSome, MatchOption, Err, length, map, string_bytes};
 ghost use Rattle.std.specs.Io.KnownBytes.{Keeps, Appends, IsAtEnd};
-ghost use Rattle.anneal_plan.specs.Numbers.{Numbers};
+ghost use Rattle.anneal_plan.specs.Numbers.{Numbers, KeepsLimits as KeepsNumbers};
 ghost use Rattle.cert_text.specs.Claims.{claim};
 ghost use Rattle.flip_io.specs.Causes.{Rose};
 ghost use Rattle.facet_text.specs.Writing.{KeepsLimits};
+ghost use Rattle.round_run.specs.Gates.{Rise};
 ghost use Rattle.flip_io.specs.Outcomes.{AppendsPrefix};
 ghost use Rattle.job_run.specs.declared.job.Stop.TheVariants.{NoMemory};
 ghost use Rattle.job_run.specs.declared.job.JobReport.TheVariants as report;
@@ -12,8 +13,8 @@ ghost use Rattle.job_run.specs.declared.job.Job.TheVariants as job;
 ghost use Rattle.job_run.specs.declared.job.Job.{Job};
 ghost use Rattle.job_run.specs.declared.fault.Fault.TheVariants as fault;
 ghost use Rattle.job_run.specs.Texts.{usage_line};
-ghost use Rattle.job_run.specs.Spheres.{TellsObstacle, TellsCertified, TellsCertificate, TellsDescent, TellsCycle};
-ghost use Rattle.job_run.specs.Answers.{IsOf, limit_of, IsJob, NamesNoJob, IsVerdict, EndsDescent, LeadsDown, Refuses, IsJudged, IsFound, IsAnswer, FitsWords, FitsJob, EndsJob, RunsClean, TellsReport, TellsFacts, IsWritten, IsDecided, HasVerdict, AsksForDescent, RefusesWords, WritesNothing, ReportsNothing, Answered, BegunWith, status_number};
+ghost use Rattle.job_run.specs.Spheres.{TellsObstacle, TellsCertified, TellsCertificate, TellsSearch, TellsCycle};
+ghost use Rattle.job_run.specs.Answers.{IsOf, limit_of, IsJob, NamesNoJob, IsVerdict, Searches, Refuses, IsJudged, IsFound, IsAnswer, FitsWords, FitsJob, EndsJob, EndsSearch, MayEnd, Headline, quits_of, IsInput, RunsClean, TellsReport, TellsFacts, IsWritten, IsDecided, HasVerdict, AsksForSphere, RefusesWords, WritesNothing, ReportsNothing, Answered, BegunWith, status_number};
 
 use crate::fault::{Fault, fault_line};
 use crate::info::{description, read_alone};
@@ -27,11 +28,13 @@ use cert_text::Certificate;
 use complex_core::Complex;
 use flip_io::{Failed, ReadAllFault, Sink, Source, read_all, write_all};
 use flip_laws::cannot_reach;
-use flip_options::Descended;
-use flip_rules::is_simplex_boundary;
 use flip_world::World;
+use held_stars::Gate;
 use job_words::{Job as Asked, JobName, UsageFault, read_words};
+use round_run::{Report, SphereFound, search_sphere};
 use std::alloc::{AllocError, Global};
+use std::marker::Send;
+use std::thread::Threads;
 use trace_text::read_trace;
 
 // What words can ask for.
@@ -127,8 +130,8 @@ pub enum JobReport {
     Nothing,
     /// The world that a trace ends with.
     Trace(World),
-    /// The descent of a complex that nothing keeps from being led to a sphere.
-    Sphere(Descended),
+    /// A search from a complex that nothing keeps from being led to a sphere.
+    Sphere(Report),
 }
 
 /// What a job ends with.
@@ -228,53 +231,78 @@ fn judge_info(alloc: Global, bytes: &[u8]) -> Result<Prepared, AllocError>
     }
 }
 
-// Leads a complex down, and tells whether it ends as the boundary of a simplex.
-fn judge_descent(alloc: Global, complex: Complex, room: u16) -> Result<Prepared, AllocError>
+// Searches for a sphere, and tells what was found.
+fn judge_search<R: Threads + Sync, G: Gate + Send>(
+    rt: &R,
+    alloc: Global,
+    complex: Complex,
+    plan: &Plan,
+    gates: &mut [G],
+) -> Result<Prepared, AllocError>
     requires limits { KeepsLimits complex }
-    requires small { room ≤ 1024 }
-    ensures comes { IfOk result (λ a. LeadsDown complex room a.status a.text.items a.report) }
+    requires numbers { KeepsNumbers plan.now }
+    requires gates { 16 ≤ length gates.old }
+    ensures searched { IfOk result (λ a. Searches complex plan.now a.status a.text.items a.report) }
+    ensures quits { IfOk result (λ a. Rise (λ g. G.quits g) gates.old gates.new (quits_of a.report)) }
+    ensures later { Rise (λ g. G.quits g) gates.old gates.new (λ _. 0) }
 {
-    let descended = Descended::of(alloc, complex, room)?;
-    if is_simplex_boundary(descended.end()) {
-        Ok(Prepared {
+    match search_sphere(rt, alloc, &complex, plan, gates)? {
+        SphereFound::Sphere(report) => Ok(Prepared {
             status: Status::Yes,
-            text: found_text(alloc, &descended)?,
-            report: JobReport::Sphere(descended),
-        })
-    } else {
-        Ok(Prepared {
+            text: found_text(alloc, &report)?,
+            report: JobReport::Sphere(report),
+        }),
+        SphereFound::Undecided(report) => Ok(Prepared {
             status: Status::Undecided,
-            text: undecided_text(alloc, &descended)?,
-            report: JobReport::Sphere(descended),
-        })
+            text: undecided_text(alloc, &report)?,
+            report: JobReport::Sphere(report),
+        }),
     }
 }
 
-// Tells what keeps the complex of an input from being led to a sphere. Where nothing does, it is led down, but with rounds it is
-// refused.
-fn judge_sphere(alloc: Global, plan: Plan, bytes: &[u8]) -> Result<Prepared, AllocError>
-    ensures judged { IfOk result (λ a. IsJudged (job.Sphere plan) bytes.now a.status a.text.items a.report) }
+// Tells what keeps the complex of an input from being led to a sphere. Where nothing does, it is searched for one.
+fn judge_sphere<R: Threads + Sync, G: Gate + Send>(
+    rt: &R,
+    alloc: Global,
+    plan: &Plan,
+    bytes: &[u8],
+    gates: &mut [G],
+) -> Result<Prepared, AllocError>
+    requires gates { 16 ≤ length gates.old }
+    ensures judged { IfOk result (λ a. IsJudged (job.Sphere plan.now) bytes.now a.status a.text.items a.report) }
+    ensures quits { IfOk result (λ a. Rise (λ g. G.quits g) gates.old gates.new (quits_of a.report)) }
+    ensures later { Rise (λ g. G.quits g) gates.old gates.new (λ _. 0) }
 {
+    plan.keeps_limits();
     match read_alone(alloc, bytes) {
         Ok(complex) => match cannot_reach(alloc, &complex)? {
             Some(obstacle) => Ok(plain(Status::No, obstacle_text(alloc, obstacle)?)),
-            None if plan.rounds() == 0 => judge_descent(alloc, complex, plan.room() as u16),
-            None => refuse(alloc, Fault::Form),
+            None => judge_search(rt, alloc, complex, plan, gates),
         },
         Err(fault) => refuse(alloc, fault),
     }
 }
 
 // Judges an input of a job.
-fn judge(alloc: Global, job: Job, bytes: &[u8]) -> Result<Prepared, AllocError>
-    requires { length bytes.now ≤ limit_of job }
+#[tactic(auto, using(crate::proofs::Quits::quiet_result, crate::proofs::Quits::no_rise))]
+fn judge<R: Threads + Sync, G: Gate + Send>(
+    rt: &R,
+    alloc: Global,
+    job: Job,
+    bytes: &[u8],
+    gates: &mut [G],
+) -> Result<Prepared, AllocError>
+    requires short { length bytes.now ≤ limit_of job }
+    requires gates { 16 ≤ length gates.old }
     ensures judged { IfOk result (λ a. IsJudged job bytes.now a.status a.text.items a.report) }
+    ensures quits { IfOk result (λ a. Rise (λ g. G.quits g) gates.old gates.new (quits_of a.report)) }
+    ensures later { Rise (λ g. G.quits g) gates.old gates.new (λ _. 0) }
 {
     match job {
         Job::Replay => judge_replay(alloc, bytes),
         Job::Trace => judge_trace(alloc, bytes),
         Job::Info => judge_info(alloc, bytes),
-        Job::Sphere(plan) => judge_sphere(alloc, plan, bytes),
+        Job::Sphere(plan) => judge_sphere(rt, alloc, &plan, bytes, gates),
     }
 }
 
@@ -292,14 +320,23 @@ impl From<AllocError> for Stop {
 }
 
 // The answer of a job, before it is written.
-fn find_answer<S: Source>(alloc: Global, job: Job, source: &mut S) -> Result<Prepared, Stop>
+fn find_answer<R: Threads + Sync, S: Source, G: Gate + Send>(
+    rt: &R,
+    alloc: Global,
+    job: Job,
+    source: &mut S,
+    gates: &mut [G],
+) -> Result<Prepared, Stop>
+    requires gates { 16 ≤ length gates.old }
     ensures told { IfOk result (λ a. IfSome (S.left source.old) (λ bytes. IsFound job bytes a.status a.text.items a.report)) }
     ensures ends { IfOk result (λ a. EndsJob job a.status a.report) }
     ensures taken { IfOk result (λ a. HasVerdict a.status → IsAtEnd (S.left source.new)) }
     ensures fault { result ≡ Err Stop.ReadFault → Rose (S.faults source.old) (S.faults source.new) }
+    ensures quits { IfOk result (λ a. Rise (λ g. G.quits g) gates.old gates.new (quits_of a.report)) }
+    ensures later { Rise (λ g. G.quits g) gates.old gates.new (λ _. 0) }
 {
     match read_all(alloc, source, job.limit()) {
-        Ok(bytes) => Ok(judge(alloc, job, &bytes)?),
+        Ok(bytes) => Ok(judge(rt, alloc, job, &bytes, gates)?),
         Err(ReadAllFault::Fault) => Err(Stop::ReadFault),
         Err(ReadAllFault::TooLong(_)) => Ok(refuse(alloc, Fault::TooLong)?),
         Err(ReadAllFault::Memory) => Err(Stop::NoMemory),
@@ -307,16 +344,25 @@ fn find_answer<S: Source>(alloc: Global, job: Job, source: &mut S) -> Result<Pre
 }
 
 // The answer to the words, before it is written.
-fn prepare<S: Source>(alloc: Global, words: &[String], source: &mut S) -> Result<Prepared, Stop>
+fn prepare<R: Threads + Sync, S: Source, G: Gate + Send>(
+    rt: &R,
+    alloc: Global,
+    words: &[String],
+    source: &mut S,
+    gates: &mut [G],
+) -> Result<Prepared, Stop>
+    requires gates { 16 ≤ length gates.old }
     ensures told { IfOk result (λ a. IfSome (S.left source.old) (λ bytes. IsAnswer (map string_bytes words.now) bytes a.status a.text.items a.report)) }
     ensures words { IfOk result (λ a. FitsWords (map string_bytes words.now) a.status a.text.items a.report) }
     ensures taken { IfOk result (λ a. HasVerdict a.status → IsAtEnd (S.left source.new)) }
     ensures untouched { NamesNoJob (map string_bytes words.now) → source.new ≡ source.old }
     ensures fault { result ≡ Err Stop.ReadFault → Rose (S.faults source.old) (S.faults source.new) }
     ensures named { NamesNoJob (map string_bytes words.now) → result ≡ Err Stop.ReadFault → ⊥ }
+    ensures quits { IfOk result (λ a. Rise (λ g. G.quits g) gates.old gates.new (quits_of a.report)) }
+    ensures later { Rise (λ g. G.quits g) gates.old gates.new (λ _. 0) }
 {
     match Job::of_words(alloc, words)? {
-        Some(job) => find_answer(alloc, job, source),
+        Some(job) => find_answer(rt, alloc, job, source, gates),
         None => Ok(plain(Status::Usage, usage_line(alloc)?)),
     }
 }
@@ -328,20 +374,31 @@ fn prepare<S: Source>(alloc: Global, words: &[String], source: &mut S) -> Result
 /// - `trace` reads a trace of at most 4,194,304 bytes, and runs its events.
 /// - `info` reads a complex of at most 4,194,304 bytes, behind which only blanks stand, and describes it.
 /// - `sphere` reads such a complex too, and says what keeps it from being led to the boundary of a simplex: the first of four
-///   facts of a sphere that it lacks. A complex that lacks none is led down by legal flips, at each step the best one that leaves
-///   fewer facets. Where it ends as the boundary of a simplex, the flips are printed as a certificate. Until there are rounds
-///   this is done for `--rounds 0` alone, and such a complex is answered with `bad input form` elsewhere.
+///   facts of a sphere that it lacks. From a complex that lacks none it searches for legal flips that lead there: a descent, in
+///   which each flip leaves fewer facets, and then, until a descent ends there, rounds of the workers, with a descent behind each.
+///   The flips that are found are printed as a certificate.
 ///
-/// They take all options. `sphere` uses `--rounds` and `--room`, and the others use none. Words that ask for another job, or for
-/// none, are refused with the usage line. Bytes that spell no input of the job are answered with their first fault from left to
-/// right and its place.
-pub fn run_job<S: Source, K: Sink>(
+/// They take all options. `sphere` uses all but `--kind`, `--dim` and `--draws`, and the others use none. Words that ask for
+/// another job, or for none, are refused with the usage line. Bytes that spell no input of the job are answered with their first
+/// fault from left to right and its place.
+///
+/// There are at least 16 gates: worker w of each round asks the gate at place w - 1. The workers run in threads of `rt`.
+pub fn run_job<R: Threads + Sync, S: Source, K: Sink, G: Gate + Send>(
+    rt: &R,
     alloc: Global,
     words: &[String],
     source: &mut S,
     sink: &mut K,
+    gates: &mut [G],
 ) -> Answer
-    // What was appended to the sink is the text of the one answer to the words and the bytes, which has this report.
+    requires gates { 16 ≤ length gates.old }
+
+    // However the claims, flips, rollbacks and commits of the workers interleave, the journal that the program reports is one
+    // legal history: its flips, in order from the input complex, are each legal where they stand and give the complex that the
+    // run ends with; each worker's commits stand in it whole, once and in its order; and a printed Yes is what this replay shows.
+    ensures headline { (j : Job) → IsJob (map string_bytes words.now) j → HasVerdict result.status → IfSome (S.left source.old) (λ bytes. Answered (K.written sink.old) (K.written sink.new) (λ text. Headline j bytes result.status text result.report)) }
+
+    // What was appended to the sink is the text of an answer to the words and the bytes, which has this report.
     ensures answer { IsWritten result.status → IfSome (S.left source.old) (λ bytes. Answered (K.written sink.old) (K.written sink.new) (λ text. IsAnswer (map string_bytes words.now) bytes result.status text result.report)) }
 
     // A Yes to `replay` is exactly that the bytes tell a complex and a certificate, and that the certificate shows what it claims:
@@ -367,16 +424,21 @@ pub fn run_job<S: Source, K: Sink>(
     // no list of legal flips leads from it to the boundary of a simplex.
     ensures sound { (plan : Numbers) → IsJob (map string_bytes words.now) (job.Sphere plan) → result.status ≡ Status.No → IfSome (S.left source.old) (λ bytes. Answered (K.written sink.old) (K.written sink.new) (λ text. TellsObstacle bytes text)) }
 
-    // At Yes of `sphere` the text that was appended is a certificate of the complex of the input, and that complex with this
-    // certificate behind it is an input to which `replay` says Yes.
-    ensures certified { (plan : Numbers) → IsJob (map string_bytes words.now) (job.Sphere plan) → result.status ≡ Status.Yes → IfSome (S.left source.old) (λ bytes. Answered (K.written sink.old) (K.written sink.new) (λ text. TellsCertificate bytes text)) }
+    // At Yes of `sphere` the text that was appended is a certificate of the complex of the input, with the flips of the search that
+    // is reported, and that complex with this certificate behind it is an input to which `replay` says Yes.
+    ensures certified { (plan : Numbers) → IsJob (map string_bytes words.now) (job.Sphere plan) → result.status ≡ Status.Yes → IfSome (S.left source.old) (λ bytes. Answered (K.written sink.old) (K.written sink.new) (λ text. TellsCertificate bytes text result.report)) }
 
-    // At Yes and Undecided of `sphere` the descent of the complex of the input is reported: flips that are legal in order from
-    // this complex on its places, and lead to the reported end, on which no legal flip has an index above d/2.
-    ensures descent { (plan : Numbers) → IsJob (map string_bytes words.now) (job.Sphere plan) → EndsDescent plan result.status → IfSome (S.left source.old) (λ bytes. TellsDescent bytes plan.room result.report) }
+    // At Yes and Undecided of `sphere` a search from the complex of the input is reported, by the numbers that the words state: its
+    // flips are legal in order from this complex on its places, and lead to the reported end, on which no legal flip has an index
+    // above d/2; and each round is the work of the workers, in which all that a worker committed stands whole, once and in order.
+    ensures searched { (plan : Numbers) → IsJob (map string_bytes words.now) (job.Sphere plan) → EndsSearch result.status → IfSome (S.left source.old) (λ bytes. TellsSearch bytes plan result.report) }
 
-    // A closed and strongly connected complex of dimension 1 is decided by `sphere` without rounds: it is answered with Yes.
-    ensures circle { AsksForDescent (map string_bytes words.now) → IsWritten result.status → IfSome (S.left source.old) (λ bytes. TellsCycle bytes → result.status ≡ Status.Yes) }
+    // A closed and strongly connected complex of dimension 1 is decided by `sphere`: it is answered with Yes, with any number of
+    // rounds.
+    ensures circle { AsksForSphere (map string_bytes words.now) → IsWritten result.status → IfSome (S.left source.old) (λ bytes. TellsCycle bytes → result.status ≡ Status.Yes) }
+
+    // In all rounds together a worker quits at most as often as the count of its gate rose.
+    ensures quits { Rise (λ g. G.quits g) gates.old gates.new (quits_of result.report) }
 
     // At Yes, No and Undecided nothing of the input is left.
     ensures taken { HasVerdict result.status → IsAtEnd (S.left source.new) }
@@ -394,16 +456,21 @@ pub fn run_job<S: Source, K: Sink>(
     ensures prefix { result.status ≡ Status.WriteFault → IfSome (S.left source.old) (λ bytes. BegunWith (K.written sink.old) (K.written sink.new) (λ status text. IsAnswer (map string_bytes words.now) bytes status text result.report)) }
     ensures nothing { WritesNothing result.status → Keeps (K.written sink.old) (K.written sink.new) }
 
-    // Undecided is only said by `sphere` without rounds.
-    ensures undecided { result.status ≡ Status.Undecided → AsksForDescent (map string_bytes words.now) }
+    // Where the bytes are an input of the job that the words ask for, and neither count of faults rose, the answer is one of the
+    // verdicts of this job, or there was no memory.
+    ensures complete { (j : Job) → IsJob (map string_bytes words.now) j → (Rose (S.faults source.old) (S.faults source.new) → ⊥) → (Rose (K.faults sink.old) (K.faults sink.new) → ⊥) → IfSome (S.left source.old) (λ bytes. IsInput j bytes → MayEnd j result.status ⊎ (result.status ≡ Status.NoMemory)) }
 
-    // A core is reported at Yes and No of `trace`. At Yes of `sphere` a descent is reported whose end is the boundary of a
-    // simplex, and at Undecided one whose end is none. Where such an answer could not be written, its report stands too.
+    // Undecided is only said by `sphere`.
+    ensures undecided { result.status ≡ Status.Undecided → AsksForSphere (map string_bytes words.now) }
+
+    // A core is reported at Yes and No of `trace`. At Yes of `sphere` a search is reported whose last descent was the first that
+    // ended in the boundary of a simplex, and at Undecided one that made all rounds, and no descent of which ended there. Where
+    // such an answer could not be written, its report stands too.
     ensures reported { (j : Job) → IsJob (map string_bytes words.now) j → HasVerdict result.status → FitsJob j result.status result.report }
     ensures silent { ReportsNothing result.status → result.report ≡ report.Nothing }
-    ensures report { (IsJob (map string_bytes words.now) job.Trace → ⊥) → (AsksForDescent (map string_bytes words.now) → ⊥) → result.report ≡ report.Nothing }
+    ensures report { (IsJob (map string_bytes words.now) job.Trace → ⊥) → (AsksForSphere (map string_bytes words.now) → ⊥) → result.report ≡ report.Nothing }
 {
-    match prepare(alloc, words, source) {
+    match prepare(rt, alloc, words, source, gates) {
         Ok(
             Prepared {
                 status,

@@ -18,6 +18,8 @@ mod tests;
 #[cfg(test)]
 mod tests_info;
 #[cfg(test)]
+mod tests_run;
+#[cfg(test)]
 mod tests_sphere;
 #[cfg(test)]
 mod tests_trace;

@@ -1,13 +1,12 @@
-// What keeps a complex from being led to a sphere, and what it comes down to.
-ghost use Rattle.std.specs.Prelude.{◌≡◌, IfOk, length, string_bytes, true};
-ghost use Rattle.flip_names.specs.Names.{named_flips, takes_flips};
-ghost use Rattle.job_run.specs.Spheres.{obstacle_line, obstacle_text, found_text, undecided_text};
+// What keeps a complex from being led to a sphere, and what a search for one comes to.
+ghost use Rattle.std.specs.Prelude.{◌≡◌, ◌++◌, ◌∷◌, IfOk, length, string_bytes};
+ghost use Rattle.report_text.specs.Shown.{told_flips};
+ghost use Rattle.job_run.specs.Spheres.{obstacle_line, obstacle_text, rounds_line, found_text, undecided_text};
 
 use crate::info::{apart_line, clash_line, euler_line, ridge_line};
 use cert_text::{Certificate, write_certificate};
 use flip_laws::Obstacle;
-use flip_names::named_flips;
-use flip_options::Descended;
+use round_run::Report;
 use std::alloc::{AllocError, Global};
 
 // The line of an obstacle.
@@ -31,24 +30,33 @@ pub(crate) fn obstacle_text(alloc: Global, obstacle: Obstacle) -> Result<String,
     Ok(text)
 }
 
-/// The answer to a complex whose descent ends in the boundary of a simplex: a certificate, in the labels of the complex.
-pub(crate) fn found_text(alloc: Global, descended: &Descended) -> Result<Vec<u8>, AllocError>
-    requires { takes_flips descended.now.names descended.now.flips ≡ true }
-    ensures { IfOk result (λ t. t.items ≡ found_text (named_flips descended.now.names descended.now.flips)) }
+// The first lines of an answer: the verdict, and how many rounds were made.
+fn verdict_lines(alloc: Global, verdict: &str, report: &Report) -> Result<String, AllocError>
+    ensures { IfOk result (λ t. string_bytes t ≡ verdict.now ++ (10 ∷ rounds_line (length report.now.rounds))) }
 {
-    let flips = named_flips(alloc, descended.flips(), descended.names())?;
-    let mut text = String::from_str(alloc, "yes\nrounds 0\n")?.into_bytes();
+    let rounds = report.rounds().len();
+    let mut text = String::from_str(alloc, verdict)?;
+    write!(text, "\nrounds {rounds}\n")?;
+    Ok(text)
+}
+
+/// The answer to a complex that a search led to the boundary of a simplex: a certificate, in the labels of the complex.
+pub(crate) fn found_text(alloc: Global, report: &Report) -> Result<Vec<u8>, AllocError>
+    ensures { IfOk result (λ t. t.items ≡ found_text (length report.now.rounds) (told_flips report.now)) }
+{
+    let flips = report.named_flips(alloc)?;
+    let mut text = verdict_lines(alloc, "yes", report)?.into_bytes();
     write_certificate(&Certificate::Sphere(flips), &mut text)?;
     Ok(text)
 }
 
-/// The answer to a complex whose descent ends elsewhere.
-pub(crate) fn undecided_text(alloc: Global, descended: &Descended) -> Result<Vec<u8>, AllocError>
-    ensures { IfOk result (λ t. t.items ≡ undecided_text (length descended.now.flips) (length descended.now.end.facets)) }
+/// The answer to a complex that no descent of a search led there.
+pub(crate) fn undecided_text(alloc: Global, report: &Report) -> Result<Vec<u8>, AllocError>
+    ensures { IfOk result (λ t. t.items ≡ undecided_text (length report.now.rounds) (length (told_flips report.now)) (length report.now.end.facets)) }
 {
-    let mut text = String::from_str(alloc, "undecided\nrounds 0\n")?;
-    let flips = descended.flips().len();
-    let facets = descended.end().facets().len();
+    let flips = report.named_flips(alloc)?.len();
+    let facets = report.end().facets().len();
+    let mut text = verdict_lines(alloc, "undecided", report)?;
     write!(text, "flips {flips}\n")?;
     write!(text, "facets {facets}\n")?;
     Ok(text.into_bytes())

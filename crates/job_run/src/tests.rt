@@ -1,7 +1,9 @@
 use super::*;
+use crate::tests_run::run_open;
 use flip_io::{MemSink, MemSource};
 use std::alloc::{AllocError, Global};
 use std::test::Fail;
+use std::thread::Threads;
 
 const TET: &str = "[[1,2,3],[1,2,4],[1,3,4],[2,3,4]]\nbistellar 1 sphere\n";
 
@@ -17,7 +19,8 @@ const USAGE: &str =
 
 // Does what a line of words asks for on some bytes. The source gives pieces of 8 bytes, the sink takes 4, and each fails at
 // one call.
-fn run_words(
+fn run_words<R: Threads + Sync>(
+    rt: &R,
     alloc: Global,
     line: &str,
     bytes: &[u8],
@@ -30,21 +33,33 @@ fn run_words(
     }
     let mut source = MemSource::new(bytes.to_vec(alloc)?, 8, vec![in alloc; read_fails]?);
     let mut sink = MemSink::new(alloc, 1000, 4, vec![in alloc; write_fails]?)?;
-    let answer = run_job(alloc, &words, &mut source, &mut sink);
+    let answer = run_open(rt, alloc, &words, &mut source, &mut sink);
     Ok((answer.status, sink.bytes().to_vec(alloc)?))
 }
 
-fn run_failing(
+fn run_failing<R: Threads + Sync>(
+    rt: &R,
     alloc: Global,
     text: &str,
     read_fails: u64,
     write_fails: u64,
 ) -> Result<(Status, Vec<u8>), AllocError> {
-    run_words(alloc, "replay", text.as_bytes(), read_fails, write_fails)
+    run_words(
+        rt,
+        alloc,
+        "replay",
+        text.as_bytes(),
+        read_fails,
+        write_fails,
+    )
 }
 
-fn run(alloc: Global, text: &str) -> Result<(Status, Vec<u8>), AllocError> {
-    run_failing(alloc, text, 0, 0)
+fn run<R: Threads + Sync>(
+    rt: &R,
+    alloc: Global,
+    text: &str,
+) -> Result<(Status, Vec<u8>), AllocError> {
+    run_failing(rt, alloc, text, 0, 0)
 }
 
 #[test]
@@ -72,7 +87,7 @@ fn flips_are_replayed(rt: HostRuntime) -> Result<(), Fail> {
     ];
     for (complex, flips, read_fails, write_fails, status, text) in cases {
         let input = format!(in rt.alloc(); "{complex}{flips}")?;
-        let (ended, written) = run_failing(rt.alloc(), &input, read_fails, write_fails)?;
+        let (ended, written) = run_failing(&rt, rt.alloc(), &input, read_fails, write_fails)?;
         assert_eq!(rt; ended, status, "at {flips}");
         assert_eq!(rt; written.as_slice(), text.as_bytes());
     }
@@ -106,7 +121,7 @@ fn a_part_of_an_input_has_a_fault_at_its_end(rt: HostRuntime) -> Result<(), Fail
             };
             let at = if count < place { count } else { place };
             let text = format!(in rt.alloc(); "bad input {fault} {at}\n")?;
-            let (status, written) = run_words(rt.alloc(), "replay", part, 0, 0)?;
+            let (status, written) = run_words(&rt, rt.alloc(), "replay", part, 0, 0)?;
             assert_eq!(rt; status, Status::BadInput, "at {count}");
             assert_eq!(rt; written.as_slice(), text.as_bytes());
         }
@@ -120,7 +135,7 @@ fn a_part_of_an_input_has_a_fault_at_its_end(rt: HostRuntime) -> Result<(), Fail
         } else {
             "yes\nflips 3\nfacets 4\n"
         };
-        let (_, written) = run_words(rt.alloc(), "replay", part, 0, 0)?;
+        let (_, written) = run_words(&rt, rt.alloc(), "replay", part, 0, 0)?;
         assert_eq!(rt; written.as_slice(), text.as_bytes());
     }
     Ok(())
@@ -154,7 +169,7 @@ const FAULTS: [(&str, &str); 11] = [
 fn the_first_fault_is_answered(rt: HostRuntime) -> Result<(), Fail> {
     for (input, fault) in FAULTS {
         let text = format!(in rt.alloc(); "bad input {fault}\n")?;
-        let (status, written) = run(rt.alloc(), input)?;
+        let (status, written) = run(&rt, rt.alloc(), input)?;
         assert_eq!(rt; status, Status::BadInput, "at {input}");
         assert_eq!(rt; written.as_slice(), text.as_bytes());
     }
@@ -199,7 +214,7 @@ const CLAIMS: [(&str, Status, &str); 6] = [
 #[test]
 fn each_kind_of_certificate_is_replayed(rt: HostRuntime) -> Result<(), Fail> {
     for (input, status, text) in CLAIMS {
-        let (ended, written) = run(rt.alloc(), input)?;
+        let (ended, written) = run(&rt, rt.alloc(), input)?;
         assert_eq!(rt; ended, status, "at {input}");
         assert_eq!(rt; written.as_slice(), text.as_bytes());
     }
@@ -225,7 +240,7 @@ const SPELLINGS: [(&str, &str); 3] = [
 #[test]
 fn an_input_may_be_spelled_freely(rt: HostRuntime) -> Result<(), Fail> {
     for (input, text) in SPELLINGS {
-        let (_, written) = run(rt.alloc(), input)?;
+        let (_, written) = run(&rt, rt.alloc(), input)?;
         assert_eq!(rt; written.as_slice(), text.as_bytes());
     }
     Ok(())
@@ -237,19 +252,19 @@ fn each_read_and_each_write_can_fail(rt: HostRuntime) -> Result<(), Fail> {
     let input = format!(in rt.alloc(); "{TET}flips 0\n")?;
     let text = "yes\nflips 0\nfacets 4\n";
     for read in 1..10 {
-        let (status, written) = run_failing(rt.alloc(), &input, read, 0)?;
+        let (status, written) = run_failing(&rt, rt.alloc(), &input, read, 0)?;
         assert_eq!(rt; status, Status::ReadFault, "at {read}");
         assert!(rt; written.is_empty());
     }
     for write in 1..7 {
-        let (status, written) = run_failing(rt.alloc(), &input, 0, write)?;
+        let (status, written) = run_failing(&rt, rt.alloc(), &input, 0, write)?;
         assert_eq!(rt; status, Status::WriteFault, "at {write}");
         assert_eq!(rt;
             written.as_slice(),
             &text.as_bytes()[..4 * (write as usize - 1)]
         );
     }
-    let (status, written) = run_failing(rt.alloc(), &input, 10, 7)?;
+    let (status, written) = run_failing(&rt, rt.alloc(), &input, 10, 7)?;
     assert_eq!(rt; status, Status::Yes);
     assert_eq!(rt; written.as_slice(), text.as_bytes());
     Ok(())
@@ -303,7 +318,7 @@ fn limits_hold_on_both_sides(rt: HostRuntime) -> Result<(), Fail> {
     ];
     for (complex, flips, status, text) in cases {
         let input = format!(in rt.alloc(); "{complex}\nbistellar 1 sphere\n{flips}")?;
-        let (ended, written) = run(rt.alloc(), &input)?;
+        let (ended, written) = run(&rt, rt.alloc(), &input)?;
         assert_eq!(rt; ended, status, "at {complex} {flips}");
         assert_eq!(rt; written.as_slice(), text.as_bytes());
     }
@@ -356,7 +371,7 @@ fn facets_and_labels_are_limited(rt: HostRuntime) -> Result<(), Fail> {
         (path(rt.alloc(), 4_097)?, "bad input too many labels\n"),
     ];
     for (input, text) in &cases {
-        let (_, written) = run(rt.alloc(), input)?;
+        let (_, written) = run(&rt, rt.alloc(), input)?;
         assert_eq!(rt; written.as_slice(), text.as_bytes());
     }
     Ok(())
@@ -366,7 +381,7 @@ fn facets_and_labels_are_limited(rt: HostRuntime) -> Result<(), Fail> {
 fn options_are_passed_over(rt: HostRuntime) -> Result<(), Fail> {
     let input = format!(in rt.alloc(); "{TET}flips 0\n")?;
     for line in ["replay,--seed,7", "--kind=cross,--dim,6,replay"] {
-        let (status, written) = run_words(rt.alloc(), line, input.as_bytes(), 0, 0)?;
+        let (status, written) = run_words(&rt, rt.alloc(), line, input.as_bytes(), 0, 0)?;
         assert_eq!(rt; status, Status::Yes, "at {line}");
         assert_eq!(rt; written.as_slice(), "yes\nflips 0\nfacets 4\n".as_bytes());
     }
@@ -383,10 +398,12 @@ fn other_words_are_refused(rt: HostRuntime) -> Result<(), Fail> {
         "replay,trace",
         "replay,--workers,17",
         "replay,--rounds,10000",
+        "sphere,--workers,17",
+        "sphere,--rounds,10000",
         "trace,--kind,torus,--dim,3",
     ];
     for line in lines {
-        let (status, written) = run_words(rt.alloc(), line, TET.as_bytes(), 0, 0)?;
+        let (status, written) = run_words(&rt, rt.alloc(), line, TET.as_bytes(), 0, 0)?;
         assert_eq!(rt; status, Status::Usage, "at {line}");
         assert_eq!(rt; written.as_slice(), USAGE.as_bytes());
     }

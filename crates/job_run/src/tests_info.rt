@@ -1,15 +1,21 @@
 use super::*;
+use crate::tests_run::run_open;
 use flip_io::{MemSink, MemSource};
 use std::alloc::{AllocError, Global};
 use std::test::Fail;
+use std::thread::Threads;
 
 // What `info` ends with on some bytes, and what it wrote.
-fn run(alloc: Global, bytes: Vec<u8>) -> Result<(Status, Vec<u8>), AllocError> {
+fn run<R: Threads + Sync>(
+    rt: &R,
+    alloc: Global,
+    bytes: Vec<u8>,
+) -> Result<(Status, Vec<u8>), AllocError> {
     let mut words = Vec::new(alloc);
     words.push(String::from_str(alloc, "info")?)?;
     let mut source = MemSource::new(bytes, 4096, Vec::new(alloc));
     let mut sink = MemSink::new(alloc, 1000, 16, Vec::new(alloc))?;
-    let answer = run_job(alloc, &words, &mut source, &mut sink);
+    let answer = run_open(rt, alloc, &words, &mut source, &mut sink);
     Ok((answer.status, sink.bytes().to_vec(alloc)?))
 }
 
@@ -72,13 +78,13 @@ const FAULTS: [(&str, &str); 11] = [
 #[test]
 fn complexes_are_described(rt: HostRuntime) -> Result<(), Fail> {
     for (input, text) in COMPLEXES {
-        let (status, written) = run(rt.alloc(), input.as_bytes().to_vec(rt.alloc())?)?;
+        let (status, written) = run(&rt, rt.alloc(), input.as_bytes().to_vec(rt.alloc())?)?;
         assert_eq!(rt; status, Status::Yes, "at {input}");
         assert_eq!(rt; written.as_slice(), text.as_bytes(), "at {input}");
     }
     for (input, fault) in FAULTS {
         let text = format!(in rt.alloc(); "bad input {fault}\n")?;
-        let (status, written) = run(rt.alloc(), input.as_bytes().to_vec(rt.alloc())?)?;
+        let (status, written) = run(&rt, rt.alloc(), input.as_bytes().to_vec(rt.alloc())?)?;
         assert_eq!(rt; status, Status::BadInput, "at {input}");
         assert_eq!(rt; written.as_slice(), text.as_bytes(), "at {input}");
     }
@@ -96,11 +102,11 @@ fn padded(alloc: Global, bytes: usize) -> Result<Vec<u8>, AllocError> {
 
 #[test]
 fn one_byte_more_is_too_long(rt: HostRuntime) -> Result<(), Fail> {
-    let (status, written) = run(rt.alloc(), padded(rt.alloc(), 4_194_304)?)?;
+    let (status, written) = run(&rt, rt.alloc(), padded(rt.alloc(), 4_194_304)?)?;
     let text = "dimension 1\nf 2 1\neuler 1\nclosed no ridge 1 in 1\nstrong yes\norientable yes\n";
     assert_eq!(rt; status, Status::Yes);
     assert_eq!(rt; written.as_slice(), text.as_bytes());
-    let (status, written) = run(rt.alloc(), padded(rt.alloc(), 4_194_305)?)?;
+    let (status, written) = run(&rt, rt.alloc(), padded(rt.alloc(), 4_194_305)?)?;
     assert_eq!(rt; status, Status::BadInput);
     assert_eq!(rt; written.as_slice(), "bad input too long\n".as_bytes());
     Ok(())

@@ -1,7 +1,9 @@
 use super::*;
+use crate::tests_run::run_open;
 use flip_io::{MemSink, MemSource};
 use std::alloc::{AllocError, Global};
 use std::test::Fail;
+use std::thread::Threads;
 
 const TET: &str = "[[1,2,3],[1,2,4],[1,3,4],[2,3,4]]\n";
 
@@ -29,7 +31,8 @@ fn entries(report: &JobReport) -> Option<usize> {
 }
 
 // Does a job on some bytes. The sink takes 4 bytes at a time, and fails at one call.
-fn run_bytes(
+fn run_bytes<R: Threads + Sync>(
+    rt: &R,
     alloc: Global,
     job: &str,
     bytes: Vec<u8>,
@@ -39,7 +42,7 @@ fn run_bytes(
     words.push(String::from_str(alloc, job)?)?;
     let mut source = MemSource::new(bytes, 4096, Vec::new(alloc));
     let mut sink = MemSink::new(alloc, 1000, 4, vec![in alloc; write_fails]?)?;
-    let answer = run_job(alloc, &words, &mut source, &mut sink);
+    let answer = run_open(rt, alloc, &words, &mut source, &mut sink);
     Ok(Ended {
         status: answer.status,
         text: sink.bytes().to_vec(alloc)?,
@@ -47,8 +50,8 @@ fn run_bytes(
     })
 }
 
-fn run(alloc: Global, input: &str) -> Result<Ended, AllocError> {
-    run_bytes(alloc, "trace", input.as_bytes().to_vec(alloc)?, 0)
+fn run<R: Threads + Sync>(rt: &R, alloc: Global, input: &str) -> Result<Ended, AllocError> {
+    run_bytes(rt, alloc, "trace", input.as_bytes().to_vec(alloc)?, 0)
 }
 
 const TWO_WORKERS: &str =
@@ -77,7 +80,7 @@ fn two_workers_commit_in_turn(rt: HostRuntime) -> Result<(), Fail> {
     for (busy, rollback, status, verdict) in ENDS {
         let input = format!(in rt.alloc(); "{HEXAGON}{TWO_WORKERS}{busy}{THEY_COMMIT}{rollback}")?;
         let text = format!(in rt.alloc(); "{verdict}{THEIR_HISTORY}")?;
-        let ended = run(rt.alloc(), &input)?;
+        let ended = run(&rt, rt.alloc(), &input)?;
         assert_eq!(rt; ended.status, status, "at {verdict}");
         assert_eq!(rt; ended.text.as_slice(), text.as_bytes());
         assert_eq!(rt; ended.entries, Some(2));
@@ -98,7 +101,7 @@ fn a_worker_alone_is_refused(rt: HostRuntime) -> Result<(), Fail> {
     for (events, refused) in ALONE {
         let input = format!(in rt.alloc(); "{TET}workers 1\nroom 1\n{events}")?;
         let text = format!(in rt.alloc(); "no\n{refused}entries 0\n{TET}")?;
-        let ended = run(rt.alloc(), &input)?;
+        let ended = run(&rt, rt.alloc(), &input)?;
         assert_eq!(rt; ended.status, Status::No, "at {events}");
         assert_eq!(rt; ended.text.as_slice(), text.as_bytes());
         assert_eq!(rt; ended.entries, Some(0));
@@ -161,7 +164,7 @@ fn each_refusal_has_its_line(rt: HostRuntime) -> Result<(), Fail> {
     for (before, events, lines) in REFUSALS {
         let input = format!(in rt.alloc(); "{SQUARE}workers 2\nroom 2\n{before}{events}")?;
         let text = format!(in rt.alloc(); "no\n{lines}entries 0\n{SQUARE}")?;
-        let ended = run(rt.alloc(), &input)?;
+        let ended = run(&rt, rt.alloc(), &input)?;
         assert_eq!(rt; ended.status, Status::No, "at {events}");
         assert_eq!(rt; ended.text.as_slice(), text.as_bytes());
     }
@@ -197,7 +200,7 @@ fn entries_stand_in_order_under_their_names(rt: HostRuntime) -> Result<(), Fail>
     for (events, last, status, verdict, history) in HISTORIES {
         let input = format!(in rt.alloc(); "{GAPS}workers 16\nroom 2\n{events}{last}")?;
         let text = format!(in rt.alloc(); "{verdict}{history}")?;
-        let ended = run(rt.alloc(), &input)?;
+        let ended = run(&rt, rt.alloc(), &input)?;
         assert_eq!(rt; ended.status, status, "at {verdict}");
         assert_eq!(rt; ended.text.as_slice(), text.as_bytes());
     }
@@ -228,7 +231,7 @@ const FAULTS: [(&str, &str); 16] = [
 fn the_first_fault_is_answered(rt: HostRuntime) -> Result<(), Fail> {
     for (input, fault) in FAULTS {
         let text = format!(in rt.alloc(); "bad input {fault}\n")?;
-        let ended = run(rt.alloc(), input)?;
+        let ended = run(&rt, rt.alloc(), input)?;
         assert_eq!(rt; ended.status, Status::BadInput, "at {input}");
         assert_eq!(rt; ended.text.as_slice(), text.as_bytes());
         assert_eq!(rt; ended.entries, None);
@@ -240,7 +243,7 @@ fn the_first_fault_is_answered(rt: HostRuntime) -> Result<(), Fail> {
 fn a_trace_may_be_spelled_freely(rt: HostRuntime) -> Result<(), Fail> {
     let input =
         "K := [ [2,3], [3,1],\n [1,2] ]; workers 02\r\n\r\nroom 1\r\n claim  1 001 \r\nclaim 1 2\n\nclaim 1 3\nflip 1 2 | 3 1\nrollback 1";
-    let ended = run(rt.alloc(), input)?;
+    let ended = run(&rt, rt.alloc(), input)?;
     let text = "no\nevent 4 illegal b-face\nentries 0\n[[1,2],[1,3],[2,3]]\n";
     assert_eq!(rt; ended.text.as_slice(), text.as_bytes());
     Ok(())
@@ -255,7 +258,7 @@ fn a_trace_has_its_own_limit(rt: HostRuntime) -> Result<(), Fail> {
     ];
     for (job, count, text) in cases {
         let bytes = vec![in rt.alloc(); b'1'; count]?;
-        let ended = run_bytes(rt.alloc(), job, bytes, 0)?;
+        let ended = run_bytes(&rt, rt.alloc(), job, bytes, 0)?;
         assert_eq!(rt; ended.status, Status::BadInput, "at {count}");
         assert_eq!(rt; ended.text.as_slice(), text.as_bytes());
     }
@@ -271,7 +274,7 @@ fn a_trace_that_could_not_be_written_is_reported(rt: HostRuntime) -> Result<(), 
     ];
     for (job, status, text, entries) in cases {
         let bytes = input.as_bytes().to_vec(rt.alloc())?;
-        let ended = run_bytes(rt.alloc(), job, bytes, 3)?;
+        let ended = run_bytes(&rt, rt.alloc(), job, bytes, 3)?;
         assert_eq!(rt; ended.status, status, "at {job}");
         assert_eq!(rt; ended.text.as_slice(), text.as_bytes());
         assert_eq!(rt; ended.entries, entries);

@@ -1,5 +1,5 @@
 use Rattle.std.proofs.Common.{map, string_bytes, rules}
-use Rattle.job_run.proofs.Answering.{answer_is_known, begun_is_known, yes_is_known, clean_is_known, history_is_known, facts_are_known, obstacle_is_known, certificate_is_known, descent_is_known, circle_is_known, undecided_words, fitting_words, silent_words, info_words, refused_words, asking_words, begun_usage}
+use Rattle.job_run.proofs.Answering.{answer_is_known, begun_is_known, yes_is_known, clean_is_known, history_is_known, facts_are_known, obstacle_is_known, certificate_is_known, search_is_known, circle_is_known, headline_is_known, complete_is_known, memory_is_known, undecided_words, fitting_words, silent_words, info_words, refused_words, asking_words, begun_usage}
 use Rattle.job_run.proofs.job.run_job.Goals as goal
 
 pub returns-in-Ok-write_all-clause-answer : goal.returns-in-Ok-write_all-clause-answer
@@ -38,8 +38,8 @@ returns-in-Ok-write_all-clause-sound g c = λ plan n e. obstacle_is_known (g.S.S
 pub returns-in-Ok-write_all-clause-certified : goal.returns-in-Ok-write_all-clause-certified
 returns-in-Ok-write_all-clause-certified g c = λ plan n e. certificate_is_known (g.S.Source.left c.args.source.now) (g.K.Sink.written c.args.sink.now) (g.K.Sink.written c.write_all.new.sink) (map string_bytes c.args.words.now) plan c.in-Ok.field-0.status c.in-Ok.field-0.text.items c.in-Ok.field-0.report (search rules) (search rules) n e
 
-pub returns-in-Ok-write_all-clause-descent : goal.returns-in-Ok-write_all-clause-descent
-returns-in-Ok-write_all-clause-descent g c = λ plan n e. descent_is_known (g.S.Source.left c.args.source.now) (map string_bytes c.args.words.now) plan c.in-Ok.field-0.status c.in-Ok.field-0.text.items c.in-Ok.field-0.report (search rules) n e
+pub returns-in-Ok-write_all-clause-searched : goal.returns-in-Ok-write_all-clause-searched
+returns-in-Ok-write_all-clause-searched g c = λ plan n e. search_is_known (g.S.Source.left c.args.source.now) (map string_bytes c.args.words.now) plan c.in-Ok.field-0.status c.in-Ok.field-0.text.items c.in-Ok.field-0.report (search rules) n e
 
 pub returns-in-Ok-write_all-clause-circle : goal.returns-in-Ok-write_all-clause-circle
 returns-in-Ok-write_all-clause-circle g c = λ n w. circle_is_known (g.S.Source.left c.args.source.now) (map string_bytes c.args.words.now) c.in-Ok.field-0.status c.in-Ok.field-0.text.items c.in-Ok.field-0.report (search rules) n
@@ -52,3 +52,9 @@ returns-in-Ok-write_all-clause-reported g c = λ j n v. fitting_words (map strin
 
 pub returns-in-Ok-write_all-clause-report : goal.returns-in-Ok-write_all-clause-report
 returns-in-Ok-write_all-clause-report g c = λ t o. silent_words (map string_bytes c.args.words.now) c.in-Ok.field-0.status c.in-Ok.field-0.text.items c.in-Ok.field-0.report (search rules) t o
+
+pub returns-in-Ok-write_all-clause-headline : goal.returns-in-Ok-write_all-clause-headline
+returns-in-Ok-write_all-clause-headline g c = λ j n v. headline_is_known (g.S.Source.left c.args.source.now) (g.K.Sink.written c.args.sink.now) (g.K.Sink.written c.write_all.new.sink) (map string_bytes c.args.words.now) j c.in-Ok.field-0.status c.in-Ok.field-0.text.items c.in-Ok.field-0.report (search rules) (search rules) (search rules) n v
+
+pub returns-in-Ok-write_all-clause-complete : goal.returns-in-Ok-write_all-clause-complete
+returns-in-Ok-write_all-clause-complete g c = λ j n a b. complete_is_known (g.S.Source.left c.args.source.now) (map string_bytes c.args.words.now) j c.in-Ok.field-0.status c.in-Ok.field-0.text.items c.in-Ok.field-0.report (search rules) n
