@@ -6,6 +6,8 @@ stacked      a sphere: the boundary of a simplex, grown by stellar subdivisions 
 subdivided   a sphere: the same, grown by stellar subdivisions of drawn faces of drawn sizes
 cyclic       a sphere of dimension 3: the boundary of a cyclic polytope, in which any two vertices are joined by an edge
 product      a product of DIM polygons of about equal length, each cell of it cut into DIM! simplices
+join         a sphere: the join of (DIM + 1) / 2 polygons of about equal length, with two points more where DIM is even. Each edge of a
+             polygon lies in many facets, so no flip leaves fewer of them, and a descent stops at once
 drawn        drawn facets
 """
 import itertools
@@ -73,6 +75,19 @@ def cyclic(dim, facets, draw):
     return text({facet for facet in made if len(facet) == 4})
 
 
+def join(dim, facets, draw):
+    parts, label = [], 0
+    if dim % 2 == 0:
+        parts.append([(1,), (2,)])
+        label, facets = 2, facets // 2
+    polygons = (dim + 1) // 2
+    side = max(4, round(facets ** (1 / polygons)))
+    for _ in range(polygons):
+        parts.append([(label + at + 1, label + (at + 1) % side + 1) for at in range(side)])
+        label += side
+    return text({tuple(sorted(sum(facet, ()))) for facet in itertools.product(*parts)})
+
+
 def drawn(dim, facets, draw):
     made = set()
     while len(made) < facets:
@@ -82,7 +97,7 @@ def drawn(dim, facets, draw):
 
 def main():
     kind, dim, facets, seed = sys.argv[1], *map(int, sys.argv[2:])
-    makers = {"stacked": stacked, "subdivided": subdivided, "cyclic": cyclic, "product": product, "drawn": drawn}
+    makers = {"stacked": stacked, "subdivided": subdivided, "cyclic": cyclic, "product": product, "join": join, "drawn": drawn}
     sys.stdout.write(makers[kind](dim, facets, random.Random(seed)))
 
 
