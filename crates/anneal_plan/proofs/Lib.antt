@@ -4,6 +4,7 @@ pub mod Steps
 pub mod Founds
 pub mod Parting
 pub mod FacesLeft
+pub mod Reaching
 pub mod AllFaces
 pub mod Gathered
 pub mod Choosing

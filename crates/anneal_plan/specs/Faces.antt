@@ -1,6 +1,6 @@
 -- The faces of a star that have its vertex, as those that come after the last one.
-use Rattle.std.specs.Prelude.{◌≡◌, ℕ, ◌≤◌, ◌<◌, Bool, true, not, if◌then◌else◌, List, [], length, map, filter, fold, Option, Some, None}
-use Rattle.std.specs.List.{flat_map, filter_map, AllByRecursion}
+use Rattle.std.specs.Prelude.{◌≡◌, ℕ, ◌≤◌, ◌<◌, ◌&&◌, Bool, true, not, nat_eq, nat_le, if◌then◌else◌, List, [], ◌∷◌, length, map, filter, fold, Option, Some, None}
+use Rattle.std.specs.List.{flat_map, filter_map, list_any, AllByRecursion}
 use Rattle.std.specs.Result.{is_ok}
 use Rattle.std.specs.Ordering.{is_lt}
 use Rattle.complex_core.specs.Labels.{IsFace, has, with, without, face_cmp}
@@ -47,6 +47,20 @@ abbrev pub lesser : Option (List ℕ) → Option (List ℕ) → Option (List ℕ
 lesser None other = other
 lesser (Some s) None = Some s
 lesser (Some s) (Some t) = if is_lt (face_cmp t s) then Some t else Some s
+
+-- whether a row has each label with which two sets begin, and one from the first label in which they differ of the lesser to that of the greater
+abbrev pub reaches : List ℕ → List ℕ → List ℕ → Bool
+reaches row [] high = true
+reaches row (from ∷ lower) [] = true
+reaches row (from ∷ lower) (to ∷ higher) =
+    if nat_eq from to then has row from && reaches row lower higher
+    else list_any (λ x. nat_le from x && nat_le x to) row
+
+-- whether a row may have a set after the last one that is less than the least so far
+abbrev pub may_be_less : List ℕ → Option (List ℕ) → Option (List ℕ) → Bool
+may_be_less row (Some last) (Some least) = reaches row last least
+may_be_less row (Some last) None = true
+may_be_less row None least = true
 
 abbrev pub next_over : List (List ℕ) → ℕ → ℕ → Option (List ℕ) → Option (List ℕ)
 next_over rows p n last = fold (λ least row. lesser least (part_after row p n last)) None rows

@@ -1,10 +1,10 @@
 //! The faces of a star that have its vertex, one after another in rising order.
 
-ghost use Rattle.std.specs.Prelude.{◌≡◌, ◌≤◌, ◌<◌, ◌+◌, ◌-◌, ◌^◌, length};
-ghost use Rattle.std.specs.List.{AllByRecursion};
+ghost use Rattle.std.specs.Prelude.{◌≡◌, ◌≤◌, ◌<◌, ◌+◌, ◌-◌, ◌^◌, ◌&&◌, nat_le, length};
+ghost use Rattle.std.specs.List.{AllByRecursion, list_any};
 ghost use Rattle.std.specs.Iterator.{YieldsFirst, item_count};
 ghost use Rattle.complex_core.specs.Labels.{IsFace};
-ghost use Rattle.anneal_plan.specs.Faces.{IsRow, AreRows, next_over, lesser, part_after};
+ghost use Rattle.anneal_plan.specs.Faces.{IsRow, AreRows, IsLast, reaches, may_be_less, next_over, lesser, part_after};
 ghost use Rattle.anneal_plan.specs.Proposals.{faces_at};
 
 use crate::parts::{first_part, next_part};
@@ -60,14 +60,53 @@ fn part_after(row: &Face, vertex: u16, others: usize, last: &Option<Face>) -> Op
     }
 }
 
+// Whether one of the labels is from the first of two numbers to the second.
+fn has_between(labels: &[u16], from: u16, to: u16) -> bool
+    ensures { result ≡ list_any (λ x. nat_le from x && nat_le x to) labels.now }
+{
+    labels.iter().any(|label| from <= *label && *label <= to)
+}
+
+// Whether a row may have a set of labels between two: each label with which both begin, and one from
+// the first label in which they differ of the lesser to that of the greater.
+fn reaches(row: &Face, low: &[u16], high: &[u16]) -> bool
+    ensures { result ≡ reaches row.now low.now high.now }
+{
+    let Some((from, lower)) = low.split_first() else {
+        return true;
+    };
+    let Some((to, higher)) = high.split_first() else {
+        return true;
+    };
+    if *from == *to {
+        row.contains(*from) && reaches(row, lower, higher)
+    } else {
+        has_between(row.labels(), *from, *to)
+    }
+}
+
+// Whether a row may have a part after the last one that is less than the least so far. Most rows
+// don't, which spares them the search for it.
+fn may_be_less(row: &Face, last: &Option<Face>, least: &Option<Face>) -> bool
+    ensures { result ≡ may_be_less row.now last.now least.now }
+{
+    match (last, least) {
+        (Some(last), Some(least)) => reaches(row, last.labels(), least.labels()),
+        _ => true,
+    }
+}
+
 // The least part of all rows that comes after the last one.
 fn next_over(rows: &[Face], vertex: u16, others: usize, last: &Option<Face>) -> Option<Face>
-    requires { AreRows vertex rows.now }
+    requires rows { AreRows vertex rows.now }
+    requires last { IsLast others last.now }
     ensures { result ≡ next_over rows.now vertex others last.now }
 {
     let mut least = None;
     for row in rows {
-        least = lesser(least, part_after(row, vertex, others, last));
+        if may_be_less(row, last, &least) {
+            least = lesser(least, part_after(row, vertex, others, last));
+        }
     }
     least
 }
