@@ -1,6 +1,6 @@
 #!/bin/sh
-# How fast spheres are found: spheres whose numbers of facets double, by 1, 2 and 4 workers. Descents alone lead the subdivided ones down; the
-# joins need rounds.
+# How fast spheres are found: spheres whose numbers of facets double, by 1, 2 and 4 workers. A descent leads the subdivided ones down a part of
+# the way, and the joins not at all.
 # Usage: benchmarks/sphere.sh [OPTION ..], with options of `sphere` such as --rounds and --tries
 set -eu
 top=$(CDPATH= cd -- "$(dirname -- "$0")/.." && pwd)
@@ -17,7 +17,7 @@ search() {
     done
 }
 for dim in 2 3 4 5; do
-    for facets in 2500 5000 10000 20000; do
+    for facets in 2450 4900 9800 19600; do
         # A complex has at most 4,096 labels.
         if [ "$dim" != 2 ] || [ "$facets" -lt 8000 ]; then
             search subdivided "$dim" "$facets" "$@"

@@ -4,8 +4,8 @@
 set -eu
 top=$(CDPATH= cd -- "$(dirname -- "$0")/.." && pwd)
 facets=${1:-2000}
-rounds=${2:-50}
-tries=${3:-1000}
+rounds=${2:-10}
+tries=${3:-200}
 room=$(mktemp -d)
 trap 'rm -rf "$room"' EXIT
 "$top/bistellar" replay <"$top/examples/tetrahedron.txt" >/dev/null
