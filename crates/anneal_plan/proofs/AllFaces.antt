@@ -18,10 +18,9 @@ use Rattle.complex_core.proofs.Sets.{Above, above_head, above_tail, above_cons, 
 use Rattle.complex_core.proofs.Faces.{cmp_less, cmp_equal, cmp_greater, put_before, put_after, with_new}
 use Rattle.complex_core.proofs.Laws.{both_ways, nat_eq_is, nat_eq_same, has-with, has-without, or_left, or_right, holds_has, holds_each, listed, listed-append, listed-filter, listed-rising, same_lists, same_labels, same_set_itself, length-without, sorted_without}
 use Rattle.complex_core.proofs.SubsetLists.{two, clash, map_from, map_back, Chosen, chosen_is, chosen_from}
-use Rattle.anneal_plan.specs.Faces.{IsRow, AreRows, parts_of, faces_left, comes_after}
+use Rattle.anneal_plan.specs.Faces.{IsRow, AreRows, parts_of}
 use Rattle.anneal_plan.specs.Proposals.{faces_at}
-use Rattle.anneal_plan.proofs.Founds.{listed-flat_map}
-use Rattle.anneal_plan.proofs.FacesLeft.{IsPart, part_of, part_row, sorted_row}
+use Rattle.anneal_plan.proofs.FaceParts.{IsPart, part_of, part_row, sorted_row, listed-flat_map}
 
 -- ---- adding the vertex keeps the order of sets of one size
 
@@ -169,22 +168,19 @@ listed-map-rising p ks s = both_ways (listed (map (λ t. with t p) (rising face_
     (λ e. let m : (t : List ℕ) × (listed (rising face_cmp ks) t ≡ true) × (s ≡ with t p) = map_back (λ t. with t p) (rising face_cmp ks) s e in ap (listed (map (λ t. with t p) ks)) m.2 ∙ map_from (λ t. with t p) ks m.0 (sym (listed-rising ks m.0) ∙ m.1))
     (λ e. let m : (t : List ℕ) × (listed ks t ≡ true) × (s ≡ with t p) = map_back (λ t. with t p) ks s e in ap (listed (map (λ t. with t p) (rising face_cmp ks))) m.2 ∙ map_from (λ t. with t p) (rising face_cmp ks) m.0 (listed-rising ks m.0 ∙ m.1))
 
-filter_all : (ts : List (List ℕ)) → filter (comes_after None) ts ≡ ts
-filter_all [] = refl
-filter_all (t ∷ ts) = ap (λ us. t ∷ us) (filter_all ts)
-
-pub all_faces : (rows : List (List ℕ)) (p n : ℕ) → AreRows p rows → faces_left rows p n None ≡ faces_at rows p (n + 1)
-unfolding faces_left faces_at parts_of
-all_faces rows p n h =
+pub faces_are : (rows : List (List ℕ)) (p n : ℕ) → AreRows p rows → faces_at rows p (n + 1) ≡ map (λ s. with s p) (parts_of rows p n)
+unfolding faces_at parts_of
+faces_are rows p n h =
     let parts : List (List ℕ) = flat_map (λ row. subsets_of n (without row p)) rows in
     let wholes : List (List ℕ) = flat_map (λ row. filter (λ s. has s p) (subsets_of (n + 1) row)) rows in
-    ap (map (λ s. with s p)) (filter_all (rising face_cmp parts))
-    ∙ same_lists (map (λ s. with s p) (rising face_cmp parts)) (rising face_cmp wholes)
-    (sorted_with p n (rising face_cmp parts) (each_part p n rows (rising face_cmp parts) (λ s. part_of p n rows s h)) (sorted_rising nat_list_cmp_total parts))
+    same_lists (rising face_cmp wholes) (map (λ s. with s p) (rising face_cmp parts))
     (sorted_rising nat_list_cmp_total wholes)
-    (λ s. listed-map-rising p parts s ∙ map-flat_map p n rows s ∙ sym (rows_alike p n rows s h.1)
-    ∙ ap (λ k. list_any (λ row. listed (filter (λ t. has t p) (subsets_of k row)) s) rows) (let e : suc n ≡ n + 1 = omega arith in e)
-    ∙ sym (listed-rising wholes s ∙ listed-flat_map (comes_after None) (λ row. filter (λ t. has t p) (subsets_of (n + 1) row)) (λ row. None) rows s))
+    (sorted_with p n (rising face_cmp parts) (each_part p n rows (rising face_cmp parts) (λ s. part_of p n rows s h)) (sorted_rising nat_list_cmp_total parts))
+    (λ s. listed-rising wholes s
+    ∙ listed-flat_map (λ row. filter (λ t. has t p) (subsets_of (n + 1) row)) rows s
+    ∙ ap (λ k. list_any (λ row. listed (filter (λ t. has t p) (subsets_of k row)) s) rows) (let e : n + 1 ≡ suc n = omega arith in e)
+    ∙ rows_alike p n rows s h.1
+    ∙ sym (listed-map-rising p parts s ∙ map-flat_map p n rows s))
 
 -- ---- how many there are
 
@@ -227,11 +223,11 @@ few_of_rows p n (row ∷ rows) h =
       few_of_row n (without row p) (let g : length (without row p) ≤ 6 = omega (arith, h.0.few, length-without row p (above_tail nat_cmp 0 row h.0.face.rising) h.0.held) in g),
     )
 
-pub few_faces : (rows : List (List ℕ)) (p n : ℕ) → AreRows p rows → length (faces_left rows p n None) ≤ 32 * length rows
-unfolding faces_left parts_of
+pub few_faces : (rows : List (List ℕ)) (p n : ℕ) → AreRows p rows → length (faces_at rows p (n + 1)) ≤ 32 * length rows
+unfolding parts_of
 few_faces rows p n h =
     let parts : List (List ℕ) = flat_map (λ row. subsets_of n (without row p)) rows in
-    omega (arith, ap length (ap (map (λ s. with s p)) (filter_all (rising face_cmp parts))), length-map (rising face_cmp parts) (λ s. with s p), length_rising parts, few_of_rows p n rows h.1)
+    omega (arith, ap length (faces_are rows p n h), length-map (rising face_cmp parts) (λ s. with s p), length_rising parts, few_of_rows p n rows h.1)
 
 sized_map : (p n : ℕ) (ts : List (List ℕ)) → AllByRecursion (IsPart p n) ts → AllByRecursion (λ a. length a ≡ n + 1) (map (λ s. with s p) ts)
 sized_map p n [] h = tt
@@ -239,8 +235,6 @@ sized_map p n (t ∷ ts) h = (let e : length (with t p) ≡ n + 1 = omega (arith
 
 -- each of them has that size
 pub faces_sized : (rows : List (List ℕ)) (p n : ℕ) → AreRows p rows → AllByRecursion (λ a. length a ≡ n + 1) (faces_at rows p (n + 1))
-unfolding faces_left
 faces_sized rows p n h =
     let P : List (List ℕ) → Type 0 = λ fs. AllByRecursion (λ a. length a ≡ n + 1) fs in
-    let Q : List (List ℕ) → Type 0 = λ ts. AllByRecursion (IsPart p n) ts in
-    subst P (all_faces rows p n h) (sized_map p n (filter (comes_after None) (parts_of rows p n)) (subst Q (sym (filter_all (parts_of rows p n))) (each_part p n rows (parts_of rows p n) (λ s. part_of p n rows s h))))
+    subst P (sym (faces_are rows p n h)) (sized_map p n (parts_of rows p n) (each_part p n rows (parts_of rows p n) (λ s. part_of p n rows s h)))

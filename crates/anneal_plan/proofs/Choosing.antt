@@ -8,6 +8,8 @@ use Rattle.complex_core.specs.Spaces.{IsFacet}
 use Rattle.flip_rules.specs.declared.flip.Flip.{Flip}
 use Rattle.stars.specs.StarViews.{VertexStar, IsStar}
 use Rattle.anneal_plan.specs.Proposals.{flip_of, opposite, is_candidate, faces_at, inner, entering, chosen}
+use Rattle.anneal_plan.specs.Paging.{Flips, page_of}
+use Rattle.anneal_plan.proofs.Pages.{got_first, got_later}
 use Rattle.anneal_plan.specs.Faces.{IsRow, AreRows, flips_at, rows_apart}
 use Rattle.anneal_plan.proofs.AllFaces.{faces_sized}
 use Rattle.anneal_plan.proofs.Gathered.{size_flips}
@@ -68,10 +70,21 @@ inner_is s i others h low high e =
     (λ j. map (λ a. flip_of a (opposite s.rows a)) (filter (is_candidate s.rows (rest j)) (faces_at s.rows s.vertex (size j))))
     ∙ sym (size_flips s.dim n s.rows (faces_at s.rows s.vertex n) h.rising (omega arith) (omega (arith, e, low, high)) (faces_sized s.rows s.vertex others (star_rows s h)))
 
-pub none_inside : (s : VertexStar) (i others word n : ℕ) → IsStar s → 1 ≤ i → i ≤ s.dim → others ≡ s.dim - i → n ≡ length (flips_out s others) → n ≡ 0 → None ≡ chosen (inner s i) word
-none_inside s i others word n h low high e is z =
-    sym (ap (λ fs. chosen fs word) (inner_is s i others h low high e) ∙ get_none (flips_out s others) (word % length (flips_out s others)) (sym is ∙ z))
+pub none_inside : (s : VertexStar) (i others word n : ℕ) (page : Flips) → IsStar s → 1 ≤ i → i ≤ s.dim → others ≡ s.dim - i → page ≡ page_of (flips_out s others) 0 → n ≡ page.count → n ≡ 0 → None ≡ chosen (inner s i) word
+none_inside s i others word n page h low high e is count z =
+    sym (ap (λ fs. chosen fs word) (inner_is s i others h low high e) ∙ get_none (flips_out s others) (word % length (flips_out s others)) (sym (count ∙ ap (λ p. p.count) is) ∙ z))
 
-pub chosen_inside : (s : VertexStar) (i others word n : ℕ) (o : Option Flip) → IsStar s → 1 ≤ i → i ≤ s.dim → others ≡ s.dim - i → n ≡ length (flips_out s others) → o ≡ slice_get (flips_out s others) (word % n) → o ≡ chosen (inner s i) word
+chosen_inside : (s : VertexStar) (i others word n : ℕ) (o : Option Flip) → IsStar s → 1 ≤ i → i ≤ s.dim → others ≡ s.dim - i → n ≡ length (flips_out s others) → o ≡ slice_get (flips_out s others) (word % n) → o ≡ chosen (inner s i) word
 chosen_inside s i others word n o h low high e is at =
     at ∙ ap (λ k. slice_get (flips_out s others) (word % k)) is ∙ sym (ap (λ fs. chosen fs word) (inner_is s i others h low high e))
+
+-- the chosen one is on the first page, or it begins a page of its own
+pub chosen_first : (s : VertexStar) (i others word n : ℕ) (page : Flips) (f : Flip) → IsStar s → 1 ≤ i → i ≤ s.dim → others ≡ s.dim - i → page ≡ page_of (flips_out s others) 0 → n ≡ page.count → Some f ≡ slice_get page.kept (word % n) → Some f ≡ chosen (inner s i) word
+chosen_first s i others word n page f h low high e is count at =
+    chosen_inside s i others word n (Some f) h low high e (count ∙ ap (λ p. p.count) is)
+    (got_first (flips_out s others) (word % n) f (at ∙ ap (λ p. slice_get p.kept (word % n)) is))
+
+pub chosen_later : (s : VertexStar) (i others word n : ℕ) (page later : Flips) (o : Option Flip) → IsStar s → 1 ≤ i → i ≤ s.dim → others ≡ s.dim - i → page ≡ page_of (flips_out s others) 0 → n ≡ page.count → later ≡ page_of (flips_out s others) (word % n) → o ≡ slice_get later.kept 0 → o ≡ chosen (inner s i) word
+chosen_later s i others word n page later o h low high e is count more at =
+    chosen_inside s i others word n o h low high e (count ∙ ap (λ p. p.count) is)
+    (at ∙ ap (λ p. slice_get p.kept 0) more ∙ got_later (flips_out s others) (word % n))

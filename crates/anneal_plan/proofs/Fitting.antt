@@ -29,7 +29,7 @@ use Rattle.star_laws.specs.Stars.{star}
 use Rattle.stars.specs.StarViews.{VertexStar, IsStar}
 use Rattle.anneal_plan.specs.Proposals.{flip_of, opposite, is_candidate, faces_at, inner, entering, candidates, chosen, first_chosen, falling}
 use Rattle.anneal_plan.specs.Fits.{FitsStar, OnlyBCanBreak}
-use Rattle.anneal_plan.proofs.Founds.{listed-flat_map}
+use Rattle.anneal_plan.proofs.FaceParts.{listed-flat_map}
 use Rattle.anneal_plan.proofs.Gaps.{labels_above}
 use Rattle.anneal_plan.proofs.Gathered.{all_of, apart, has-less, sorted_opposite}
 
@@ -193,7 +193,7 @@ unfolding faces_at
 face_at s n a h t =
     let parts : List (List ℕ) = flat_map (λ row. filter (λ f. has f s.vertex) (subsets_of n row)) s.rows in
     in_rows s n a s.rows h (all_listed s.rows s.rows (λ f u. u))
-    (sym (listed-rising parts a ∙ listed-flat_map (λ f. true) (λ row. filter (λ f. has f s.vertex) (subsets_of n row)) (λ row. None) s.rows a) ∙ t)
+    (sym (listed-rising parts a ∙ listed-flat_map (λ row. filter (λ f. has f s.vertex) (subsets_of n row)) s.rows a) ∙ t)
 
 opposite_face : (s : VertexStar) (a : List ℕ) → IsStar s → length (opposite s.rows a) ≤ 8 → IsFace (opposite s.rows a)
 opposite_face s a h few =

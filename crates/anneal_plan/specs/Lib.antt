@@ -3,8 +3,10 @@ pub mod Numbers
 pub mod Limits
 pub mod Words
 pub mod Places
-pub mod Parts
 pub mod Proposals
 pub mod Faces
+pub mod Growth
+pub mod Nearest
+pub mod Paging
 pub mod Fits
 pub mod Turns

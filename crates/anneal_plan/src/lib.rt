@@ -7,9 +7,10 @@
 //! generation" (2014).
 #![tactic(auto)]
 
-mod faces;
+mod grow;
 mod near;
-mod parts;
+mod nearest;
+mod page;
 mod places;
 mod plan;
 mod propose;

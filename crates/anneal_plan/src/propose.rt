@@ -3,13 +3,12 @@
 ghost use Rattle.std.specs.Prelude.{◌≡◌, ◌≤◌, ◌<◌, ◌+◌, ◌*◌, ◌-◌, length, slice_get, None, IfSome, ◌↔◌};
 ghost use Rattle.std.specs.List.{AllByRecursion};
 ghost use Rattle.std.specs.Option.{ForSome};
-ghost use Rattle.anneal_plan.specs.Faces.{rows_apart, flips_at};
+ghost use Rattle.anneal_plan.specs.Faces.{rows_apart};
 ghost use Rattle.anneal_plan.specs.Fits.{FitsStar, HasNoCandidate, OnlyBCanBreak};
 ghost use Rattle.anneal_plan.specs.Turns.{TurnsStart, TurnsGoOn, TurnsStop, TurnsEnd, TurnsSplit, TurnsAreFew, TurnsHaveVertex};
-ghost use Rattle.anneal_plan.specs.Proposals.{faces_at, allowed_of, candidates, chosen, entering, inner, first_chosen, fresh_label, falling, indices, proposal_of};
+ghost use Rattle.anneal_plan.specs.Proposals.{allowed_of, candidates, chosen, entering, inner, first_chosen, fresh_label, falling, indices, proposal_of};
 
-use crate::faces::Faces;
-use crate::near::flip_at;
+use crate::grow::flips_of;
 use crate::plan::Phase;
 use complex_core::Face;
 use flip_rules::Flip;
@@ -79,35 +78,6 @@ fn entering_flip(star: &Star, fresh: Option<u16>, word: u32) -> Option<Flip>
     Some(Flip { a, b })
 }
 
-// How many faces with the vertex and so many other labels a flip can take out.
-fn count_inner(star: &Star, others: usize) -> usize
-    ensures { result ≡ length (flips_at star.now.dim star.now.rows (faces_at star.now.rows star.now.vertex (others + 1))) }
-{
-    let dim = star.dim();
-    let rows = star.rows();
-    Faces::of(rows, star.vertex(), others)
-        .filter_map(|face| flip_at(dim, rows, &face))
-        .count()
-}
-
-// The flip at this place, from 0, among those that take out such a face.
-fn nth_inner(star: &Star, others: usize, place: usize) -> Option<Flip>
-    ensures { result ≡ slice_get (flips_at star.now.dim star.now.rows (faces_at star.now.rows star.now.vertex (others + 1))) place }
-{
-    let dim = star.dim();
-    let rows = star.rows();
-    let mut left = place;
-    for face in Faces::of(rows, star.vertex(), others) {
-        if let Some(flip) = flip_at(dim, rows, &face) {
-            if left == 0 {
-                return Some(flip);
-            }
-            left -= 1;
-        }
-    }
-    None
-}
-
 // The candidate of an index from 1 that a word chooses.
 fn inner_flip(star: &Star, index: u32, word: u32) -> Option<Flip>
     requires low { 1 ≤ index }
@@ -115,11 +85,16 @@ fn inner_flip(star: &Star, index: u32, word: u32) -> Option<Flip>
     ensures { result ≡ chosen (inner star.now index) word }
 {
     let others = (star.dim() - index) as usize;
-    let count = count_inner(star, others);
+    let first = flips_of(star, others, 0);
+    let count = first.count();
     if count == 0 {
         return None;
     }
-    nth_inner(star, others, word as usize % count)
+    let place = word as usize % count;
+    match first.get(place) {
+        Some(flip) => Some(flip),
+        None => flips_of(star, others, place).get(0),
+    }
 }
 
 // The candidate of an index that a word chooses.
