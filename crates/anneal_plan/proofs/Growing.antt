@@ -1,5 +1,5 @@
 -- The faces that grow one label after another have the flips of all faces of their size.
-use Rattle.std.proofs.Common.{◌≡◌, inl, inr, ℕ, zero, suc, ◌+◌, ◌<◌, Bool, true, false, not, nat_eq, nat_lt, ◌||◌, ◌&&◌, cond, Some, None, List, [], ◌∷◌, ◌++◌, length, map, filter, sym, ◌∙◌, ap, refl, arith}
+use Rattle.std.proofs.Common.{◌≡◌, inl, inr, ℕ, zero, suc, ◌+◌, Bool, true, false, not, nat_eq, nat_lt, ◌||◌, ◌&&◌, cond, Some, None, List, [], ◌∷◌, ◌++◌, length, map, filter, sym, ◌∙◌, ap, refl, arith}
 use Rattle.std.specs.List.{AllByRecursion, flat_map, filter_map, list_any}
 use Rattle.std.specs.List.Sorted.{IsStrictlySortedBy}
 use Rattle.std.specs.Result.{is_ok}
@@ -11,7 +11,6 @@ use Rattle.std.specs.declared.cmp.Ordering.TheVariants.{Less}
 use Rattle.std.proofs.lemmas.Cmp.{nat_cmp_total}
 use Rattle.std.proofs.lemmas.List.{map-append}
 use Rattle.std.proofs.lemmas.List.Elements.{filter_map-append}
-use Rattle.std.proofs.lemmas.List.Folds.{list_any-append}
 use Rattle.std.proofs.lemmas.List.Kept.{IsStrictlySortedBy-filter}
 use Rattle.complex_core.specs.Labels.{has, holds, with, without, union, face_cmp}
 use Rattle.complex_core.specs.Rising.{rising}
@@ -19,8 +18,8 @@ use Rattle.complex_core.specs.Spaces.{over, is_held}
 use Rattle.complex_core.specs.Maps.{used}
 use Rattle.complex_core.specs.Links.{less}
 use Rattle.complex_core.specs.Subsets.{subsets_of}
-use Rattle.complex_core.proofs.Sets.{Above, above_head, above_tail, above_cons, above_lower, sorted_none, sorted_put, sorted_rising, any-rising}
-use Rattle.complex_core.proofs.Faces.{cmp_less, cmp_equal, less_cmp, equal_cmp}
+use Rattle.complex_core.proofs.Sets.{Above, above_head, above_tail, above_cons, above_lower, sorted_none, sorted_put, sorted_rising}
+use Rattle.complex_core.proofs.Faces.{cmp_less, cmp_equal, less_cmp}
 use Rattle.complex_core.proofs.Laws.{both_ways, both_false, nat_eq_is, nat_eq_same, has-with, has-without, has-union, or_left, or_right, holds_has, holds_each, listed, listed-append, same_lists, same_labels, same_set_itself, sorted_union}
 use Rattle.complex_core.proofs.SubsetLists.{two, clash, chosen_is, chosen_from}
 use Rattle.flip_rules.specs.Flips.{sides, has_shape, same_sets}

@@ -1,6 +1,6 @@
 -- One pass over facets finds the least label that may come next, and the facets that have it.
-use Rattle.std.proofs.Common.{◌≡◌, ◌≢◌, ◌⊎◌, inl, inr, ℕ, zero, suc, ◌+◌, ◌<◌, ◌≤◌, Bool, true, false, not, nat_eq, nat_lt, ◌||◌, ◌&&◌, cond, if◌then◌else◌, Option, Some, None, List, [], ◌∷◌, ◌++◌, length, filter, fold, sym, ◌∙◌, ap, refl, subst, arith}
-use Rattle.std.specs.List.{AllByRecursion, find, list_any, flat_map}
+use Rattle.std.proofs.Common.{◌≡◌, ◌≢◌, ◌⊎◌, inl, inr, ℕ, ◌<◌, ◌≤◌, Bool, true, false, not, nat_eq, nat_lt, ◌||◌, ◌&&◌, cond, if◌then◌else◌, Option, Some, None, List, [], ◌∷◌, ◌++◌, length, filter, fold, sym, ◌∙◌, ap, refl, subst, arith}
+use Rattle.std.specs.List.{AllByRecursion, find, flat_map}
 use Rattle.std.specs.List.Sorted.{IsStrictlySortedBy}
 use Rattle.std.specs.Option.{MatchOption}
 use Rattle.std.specs.Cmp.{first_so, second_so}
@@ -9,12 +9,12 @@ use Rattle.std.specs.Ordering.{nat_cmp}
 use Rattle.std.proofs.lemmas.Cmp.{nat_cmp_total}
 use Rattle.std.proofs.lemmas.List.Folds.{list_any-append}
 use Rattle.std.proofs.lemmas.List.Kept.{IsStrictlySortedBy-filter}
-use Rattle.complex_core.specs.Labels.{has, holds, with, face_cmp}
+use Rattle.complex_core.specs.Labels.{has, holds}
 use Rattle.complex_core.specs.Spaces.{over}
 use Rattle.complex_core.specs.Maps.{used}
-use Rattle.complex_core.proofs.Sets.{Above, above_head, above_tail, above_cons, sorted_none, sorted_rising, any-rising}
-use Rattle.complex_core.proofs.Faces.{less_cmp, cmp_less, equal_cmp}
-use Rattle.complex_core.proofs.Laws.{both_ways, nat_eq_is, nat_eq_same, nat_eq_swap, or_left, or_right, same_labels}
+use Rattle.complex_core.proofs.Sets.{Above, above_head, above_tail, above_cons, sorted_rising}
+use Rattle.complex_core.proofs.Faces.{less_cmp, cmp_less}
+use Rattle.complex_core.proofs.Laws.{both_ways, nat_eq_is, nat_eq_same, or_left, or_right, same_labels}
 use Rattle.complex_core.proofs.SubsetLists.{two, clash, above_at}
 use Rattle.anneal_plan.specs.Growth.{comes_next, next_labels}
 use Rattle.anneal_plan.proofs.NextLabels.{in_any, lt_true, lt_false, lt_from, has_next}
@@ -32,10 +32,14 @@ least_of p last [] r = λ z t. refl
 least_of p last (x ∷ xs) r = elim (two (comes_next p last x)) [
   | inl t ↦
       let P : Option ℕ → Type 0 = λ o. LeastOf p last (x ∷ xs) o in
-      subst P (sym (ap (λ b. cond b (Some x) (find (comes_next p last) xs)) t)) (t, or_left (nat_eq x x) (has xs x) (nat_eq_same x), λ z _ h. elim (two (nat_eq x z)) [
-        | inl e ↦ (let l : x ≤ z = omega (arith, nat_eq_is x z e) in l)
-        | inr e ↦ (let l : x < z = less_cmp x z (above_at x z xs (above_head nat_cmp x xs r) (sym (ap (λ b. b || has xs z) e) ∙ h)) in let k : x ≤ z = omega (arith, l) in k)
-      ])
+      subst P (sym (ap (λ b. cond b (Some x) (find (comes_next p last) xs)) t)) (
+        t,
+        or_left (nat_eq x x) (has xs x) (nat_eq_same x),
+        λ z _ h. elim (two (nat_eq x z)) [
+          | inl e ↦ (let l : x ≤ z = omega (arith, nat_eq_is x z e) in l)
+          | inr e ↦ (let l : x < z = less_cmp x z (above_at x z xs (above_head nat_cmp x xs r) (sym (ap (λ b. b || has xs z) e) ∙ h)) in let k : x ≤ z = omega (arith, l) in k)
+        ],
+      )
   | inr f ↦
       let P : Option ℕ → Type 0 = λ o. LeastOf p last (x ∷ xs) o in
       subst P (sym (ap (λ b. cond b (Some x) (find (comes_next p last) xs)) f)) (wider (find (comes_next p last) xs) f (least_of p last xs (above_tail nat_cmp x xs r)))

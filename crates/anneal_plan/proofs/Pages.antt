@@ -1,5 +1,5 @@
 -- Flips that come one after another, as a page of them.
-use Rattle.std.proofs.Common.{◌≡◌, inl, inr, ℕ, zero, suc, ◌+◌, ◌-◌, ◌<◌, ◌≤◌, true, false, Bool, nat_eq, nat_le, nat_lt, ◌&&◌, cond, if◌then◌else◌, Option, Some, None, List, [], ◌∷◌, ◌++◌, length, take, drop, fold, slice_get, sym, ◌∙◌, ap, refl, arith, length-append}
+use Rattle.std.proofs.Common.{◌≡◌, inl, inr, ℕ, zero, suc, ◌+◌, ◌<◌, ◌≤◌, true, false, nat_le, nat_lt, ◌&&◌, if◌then◌else◌, Some, None, List, [], ◌∷◌, ◌++◌, length, take, drop, fold, slice_get, sym, ◌∙◌, ap, refl, arith, length-append}
 use Rattle.std.proofs.lemmas.Bool.Decides.{nat_tests}
 use Rattle.complex_core.proofs.SubsetLists.{two}
 use Rattle.flip_rules.specs.declared.flip.Flip.{Flip}

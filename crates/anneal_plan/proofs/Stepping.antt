@@ -1,6 +1,6 @@
 -- A face with one label more, and then with the labels behind it.
 use Rattle.std.proofs.Common.{◌≡◌, inl, inr, ℕ, zero, suc, ◌+◌, ◌-◌, ◌*◌, ◌^◌, ◌<◌, ◌≤◌, ◌≢◌, true, false, Bool, cond, if◌then◌else◌, Option, Some, None, List, [], ◌∷◌, ◌++◌, length, filter, fold, sym, ◌∙◌, ap, refl, subst, arith, length-append}
-use Rattle.std.specs.List.{AllByRecursion, flat_map, filter_map, cons_option}
+use Rattle.std.specs.List.{AllByRecursion, flat_map, cons_option}
 use Rattle.std.specs.List.Sorted.{IsStrictlySortedBy}
 use Rattle.std.specs.Option.{SomeIff, IsSome}
 use Rattle.std.specs.Ordering.{nat_cmp}
@@ -8,7 +8,7 @@ use Rattle.std.proofs.lemmas.List.Elements.{filter_map-append}
 use Rattle.std.proofs.lemmas.List.Kept.{IsStrictlySortedBy-filter}
 use Rattle.complex_core.specs.Labels.{has, holds, with, face_cmp}
 use Rattle.complex_core.specs.Spaces.{over}
-use Rattle.complex_core.proofs.Sets.{Above, above_head, above_tail, above_cons}
+use Rattle.complex_core.proofs.Sets.{above_tail}
 use Rattle.complex_core.proofs.Laws.{length_put_le}
 use Rattle.complex_core.proofs.SubsetLists.{two}
 use Rattle.flip_rules.specs.declared.flip.Flip.{Flip}

@@ -170,12 +170,12 @@ type Row = (Phase, [u32; 8], u32, &'static [u16], &'static [u16]);
 // At the star of 1 the rows are proposed, with 7 and 8 free.
 fn expect_proposals(
     rt: &(impl Abort + AllocGlobal),
-    sets: &[&[u16]],
+    complex: &Complex,
+    places: u16,
     rows: &[Row],
 ) -> Result<(), Fail> {
-    let complex = complex(rt.alloc(), sets)?;
-    assert!(rt; StarMap::can_hold(&complex, 8));
-    let stars = StarMap::of(rt.alloc(), &complex, 8)?;
+    assert!(rt; places >= 1 && StarMap::can_hold(complex, places));
+    let stars = StarMap::of(rt.alloc(), complex, places)?;
     let star = stars.star(1);
     assert!(rt; star.dim() >= 1);
     for (phase, words, turn, a, b) in rows {
@@ -203,7 +203,7 @@ fn proposes_by_phase_words_and_turn(rt: HostRuntime) -> Result<(), Fail> {
         (Phase::Relax, MOST, 3, &[1, 5], &[3, 4]),
         (Phase::Reduce, NONE, 0, &[], &[]),
     ];
-    expect_proposals(&rt, &OCTAHEDRON, &rows)
+    expect_proposals(&rt, &complex(rt.alloc(), &OCTAHEDRON)?, 8, &rows)
 }
 
 #[test]
@@ -213,7 +213,7 @@ fn brings_in_a_label_at_a_facet_without_it(rt: HostRuntime) -> Result<(), Fail> 
         (Phase::Heat, [0, 0, 0, 0, 0, 0, 1, 0], 0, &[1, 2, 4], &[8]),
         (Phase::Heat, [0, 0, 0, 4, 0, 0, 1, 0], 1, &[1, 3, 5], &[7]),
     ];
-    expect_proposals(&rt, &CAPPED, &rows)
+    expect_proposals(&rt, &complex(rt.alloc(), &CAPPED)?, 8, &rows)
 }
 
 #[test]
@@ -230,10 +230,45 @@ fn tries_the_indices_of_a_phase_in_order(rt: HostRuntime) -> Result<(), Fail> {
         (Phase::Relax, NONE, 0, &[1, 2], &[3, 4, 5]),
         (Phase::Reduce, NONE, 0, &[1], &[2, 3, 4, 5]),
     ];
-    expect_proposals(&rt, &SIMPLEX, &rows)?;
+    expect_proposals(&rt, &complex(rt.alloc(), &SIMPLEX)?, 8, &rows)?;
     let rows: [Row; 2] = [
         (Phase::Relax, NONE, 0, &[1, 2, 3], &[4, 5]),
         (Phase::Reduce, NONE, 0, &[], &[]),
     ];
-    expect_proposals(&rt, &CROSS, &rows)
+    expect_proposals(&rt, &complex(rt.alloc(), &CROSS)?, 8, &rows)
+}
+
+// The star of 1 whose link is the suspension of a polygon: 2 and 3 over the edges between the corners 4 to
+// 303, one after another.
+fn large_star(alloc: Global) -> Result<Complex, Fail> {
+    let mut facets = Vec::new(alloc);
+    for apex in 2..4 {
+        for corner in 4..303 {
+            facets.push(Face::from_slice(&[1, apex, corner, corner + 1])?)?;
+        }
+        facets.push(Face::from_slice(&[1, apex, 4, 303])?)?;
+    }
+    Ok(Complex::from_facets(alloc, &facets)?)
+}
+
+#[test]
+fn chooses_among_hundreds_of_candidates(rt: HostRuntime) -> Result<(), Fail> {
+    // Each A has 1 and an edge of the suspension, so there are 300 at 2, 300 at 3, and 300 between corners.
+    let choices: [(u32, &'static [u16], &'static [u16]); 9] = [
+        (0, &[1, 2, 4], &[5, 303]),
+        (63, &[1, 2, 67], &[66, 68]),
+        (64, &[1, 2, 68], &[67, 69]),
+        (299, &[1, 2, 303], &[4, 302]),
+        (300, &[1, 3, 4], &[5, 303]),
+        (601, &[1, 4, 303], &[2, 3]),
+        (602, &[1, 5, 6], &[2, 3]),
+        (899, &[1, 302, 303], &[2, 3]),
+        (900, &[1, 2, 4], &[5, 303]),
+    ];
+    let star = large_star(rt.alloc())?;
+    for (word, a, b) in choices {
+        let rows: [Row; 1] = [(Phase::Relax, [0, 0, word, 0, 0, 0, 0, 0], 0, a, b)];
+        expect_proposals(&rt, &star, 303, &rows)?;
+    }
+    Ok(())
 }
