@@ -59,16 +59,30 @@ fn signed(j: usize, number: u64) -> i64
     }
 }
 
-/// The Euler characteristic: the sum of (-1)^j f_j for j from 0 to d.
+/// The Euler characteristic of a complex whose numbers of faces are these: the sum of (-1)^j f_j for j
+/// from 0 to d.
 ///
-/// It fits, since there are at most seven numbers, and each is below 2^59.
+/// It fits, since there are at most seven numbers, and each is below 2^59. It takes no memory.
+pub fn euler_from(complex: &Complex, counts: &[u64]) -> i64
+    requires counts { counts.now ≡ numbers (faces complex.now.facets) (complex.now.dim + 1) }
+    requires small { EachIndex counts.now (λ j. slice_index counts.now j < 2 ^ 59) }
+    ensures sum { result ≡ alternating (faces complex.now.facets) (complex.now.dim + 1) }
+    ensures total { result ≡ euler complex.now.facets }
+{
+    // At most seven numbers: `dim` says so.
+    let _ = complex.dim();
+    let mut sum = 0;
+    for (j, number) in counts.iter().enumerate() {
+        sum += signed(j, *number);
+    }
+    sum
+}
+
+/// The Euler characteristic: the sum of (-1)^j f_j for j from 0 to d.
 pub fn euler(alloc: Global, complex: &Complex) -> Result<i64, AllocError>
     ensures sum { IfOk result (λ z. z ≡ alternating (faces complex.now.facets) (complex.now.dim + 1)) }
     ensures total { IfOk result (λ z. z ≡ euler complex.now.facets) }
 {
-    let mut sum = 0;
-    for (j, number) in counts(alloc, complex)?.iter().enumerate() {
-        sum += signed(j, *number);
-    }
-    Ok(sum)
+    let counts = counts(alloc, complex)?;
+    Ok(euler_from(complex, &counts))
 }

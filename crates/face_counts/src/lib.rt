@@ -4,7 +4,7 @@
 mod count;
 mod laws;
 
-pub use count::{counts, euler};
+pub use count::{counts, euler, euler_from};
 pub use laws::{euler_law, faces_law};
 
 #[cfg(test)]

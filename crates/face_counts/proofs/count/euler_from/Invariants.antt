@@ -1,7 +1,7 @@
 use Rattle.std.proofs.Common.{◌≡◌, ◌*◌, ◌^◌, pos, ◌+ℤ◌, ◌≤ℤ◌}
 use Rattle.face_counts.specs.Faces.{faces}
 use Rattle.face_counts.specs.Eulers.{alternating}
-use Rattle.face_counts.proofs.count.euler.Given as goal
+use Rattle.face_counts.proofs.count.euler_from.Given as goal
 
 abbrev pub invariant-loop-j : goal.invariant-loop-j
 invariant-loop-j l = record {
