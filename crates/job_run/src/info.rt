@@ -9,7 +9,7 @@ ghost use Rattle.job_run.specs.Readings.{complex_of, GivesComplex};
 use crate::fault::Fault;
 use crate::text::write_set_off;
 use complex_core::Complex;
-use face_counts::{counts, euler};
+use face_counts::{counts, euler_from};
 use facet_text::{next_token, read_complex};
 use orient_test::{Orientation, orient};
 use pseudo_test::{Apart, Ridge, closed, strong};
@@ -53,9 +53,10 @@ fn counted_lines(alloc: Global, complex: &Complex) -> Result<String, AllocError>
     let mut text = String::from_str(alloc, "dimension ")?;
     let dim = complex.dim();
     write!(text, "{dim}\nf")?;
-    write_counts(&mut text, &counts(alloc, complex)?)?;
+    let counts = counts(alloc, complex)?;
+    write_counts(&mut text, &counts)?;
     text.push('\n')?;
-    text.push_str(&euler_line(alloc, euler(alloc, complex)?)?)?;
+    text.push_str(&euler_line(alloc, euler_from(complex, &counts))?)?;
     Ok(text)
 }
 
