@@ -2,3 +2,4 @@ pub mod LentStars
 pub mod MadeFlips
 pub mod GivenUp
 pub mod Claims
+pub mod Gates

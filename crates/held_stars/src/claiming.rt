@@ -8,9 +8,11 @@ ghost use Rattle.board_rule.specs.Items.{has_item};
 ghost use Rattle.board_rule.specs.Views.{star_in};
 ghost use Rattle.vertex_claims.specs.Passes.{IsOf, IsSame, know, places_on};
 ghost use Rattle.held_stars.specs.Holding.{Story, Going, Made, Ends, Roomy};
+ghost use Rattle.held_stars.specs.Gates.{Follows, Keeps, after_asked, fails, is_stop, noted_in};
 
-use crate::gate::{Gate, Point, Step};
+use crate::gate::Gate;
 use crate::hold::Hold;
+use crate::point::{Point, Step};
 use crate::stopped::Stopped;
 use vertex_claims::{Board, Claimed, Pass};
 
@@ -18,6 +20,7 @@ use vertex_claims::{Board, Claimed, Pass};
 fn ask<G: Gate>(gate: &mut G, point: Point) -> Result<(), Stopped>
     ensures later { G.quits gate.old ≤ G.quits gate.new }
     ensures quit { IfErr result (λ answer. (answer ≡ Stopped.Quit) × (G.quits gate.old < G.quits gate.new)) }
+    ensures heard { Follows (G.heard gate.old) (G.heard gate.new) (λ h g. g ≡ after_asked point (fails is_stop result) h) }
 {
     match gate.at(point) {
         Step::Go => Ok(()),
@@ -47,6 +50,7 @@ fn claim_label<G: Gate>(
     ensures ends { (s : Story) (now : Space) → Going s (know pass.old) → flips_touch label s.flips ≡ true → Made pass.old hold.old now → IfErr result (Ends s pass.new hold.new) }
     ensures later { G.quits gate.old ≤ G.quits gate.new }
     ensures quit { IfErr result (λ answer. answer ≡ Stopped.Quit → G.quits gate.old < G.quits gate.new) }
+    ensures heard { Follows (G.heard gate.old) (G.heard gate.new) (Keeps (fails is_stop result) (noted_in (know pass.old).tries) (noted_in (know pass.new).tries) (length hold.old.flips.items) (length hold.new.flips.items)) }
 {
     if pass.holds(label) {
         return Ok(());
@@ -86,6 +90,7 @@ pub fn claim_labels<G: Gate>(
     ensures ends { (s : Story) (now : Space) → Going s (know pass.old) → ((q : ℕ) → has labels.now q ≡ true → flips_touch q s.flips ≡ true) → Made pass.old hold.old now → IfErr result (Ends s pass.new hold.new) }
     ensures later { G.quits gate.old ≤ G.quits gate.new }
     ensures quit { IfErr result (λ answer. answer ≡ Stopped.Quit → G.quits gate.old < G.quits gate.new) }
+    ensures heard { Follows (G.heard gate.old) (G.heard gate.new) (Keeps (fails is_stop result) (noted_in (know pass.old).tries) (noted_in (know pass.new).tries) (length hold.old.flips.items) (length hold.new.flips.items)) }
 {
     for label in labels {
         if let Err(answer) = claim_label(board, pass, hold, gate, *label) {

@@ -15,6 +15,7 @@ mod flipping;
 mod gate;
 mod hold;
 mod lending;
+mod point;
 mod stopped;
 #[cfg(test)]
 mod tests;
@@ -22,7 +23,8 @@ mod tests;
 pub use claiming::claim_labels;
 pub use ending::{fetch, give_up, roll_back};
 pub use flipping::make_flip;
-pub use gate::{Gate, OpenGate, Point, Step};
+pub use gate::{Gate, OpenGate};
 pub use hold::Hold;
 pub use lending::{give_back, lend};
+pub use point::{Point, Step};
 pub use stopped::Stopped;

@@ -6,3 +6,4 @@ pub mod ConcludedTries
 pub mod BegunTries
 pub mod WholeRuns
 pub mod CountedTries
+pub mod Hearing

@@ -43,7 +43,7 @@ after_draw t g = sym (after-add (8 * t) 8 g) ∙ ap (after_words g) (let e : 8 *
 
 -- ---- the answers
 
-quits_snoc : (xs : List Tried) (a : Tried) → quits (xs ++ a ∷ []) ≡ quits (a ∷ []) + quits xs
+pub quits_snoc : (xs : List Tried) (a : Tried) → quits (xs ++ a ∷ []) ≡ quits (a ∷ []) + quits xs
 quits_snoc [] a = omega arith
 quits_snoc (Quit ∷ xs) a = let e = quits_snoc xs a in omega (arith, e)
 quits_snoc (Committed s ∷ xs) a = quits_snoc xs a

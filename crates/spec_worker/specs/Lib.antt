@@ -1,3 +1,4 @@
 -- Workers and their tries.
 pub mod Workers
 pub mod Trying
+pub mod Hearing

@@ -1,9 +1,10 @@
 //! Workers on boards of their own, for the tests.
 
-ghost use Rattle.std.specs.Prelude.{◌≡◌, ◌+◌, ◌<◌, ◌≤◌, [], true, length, IfOk, OnOk};
+ghost use Rattle.std.specs.Prelude.{◌≡◌, ◌+◌, ◌<◌, ◌≤◌, [], true, cond, length, IfOk, OnOk, Some, None};
 ghost use Rattle.board_rule.specs.Ends.{AllBack};
 ghost use Rattle.board_rule.specs.Views.{one_more_pass, one_back};
 ghost use Rattle.vertex_claims.specs.Passes.{IsMainOf, handed, know, main_knows, marks_left, places_on, start_of, workers_on};
+ghost use Rattle.held_stars.specs.Gates.{is_quit};
 ghost use Rattle.spec_worker.specs.Workers.{Works, IsSameWorker, ArePlaces, pass_of, number_of, tries_of, mine_of, answers_of, plan_of};
 
 use crate::Worker;
@@ -25,18 +26,38 @@ pub(crate) struct Told {
     pub(crate) words: [u32; 8],
 }
 
-// A gate that ends a try at a point, once it let so many go on there.
+// A gate that ends a try at a point, once it let so many go on there. It counts what it is asked and
+// told, and tells it until a count is at the end of its type.
 #[derive(Drop)]
 pub(crate) struct QuitAt {
     pub(crate) point: Point,
     pub(crate) before: u32,
     pub(crate) quits: u32,
+    pub(crate) tells: bool,
+    pub(crate) claimed: u32,
+    pub(crate) flipped: u32,
+    pub(crate) committed: u32,
 }
 
-impl Gate for QuitAt {
-    ghost quits = { λ g. g.quits };
+impl QuitAt {
+    // It was neither asked nor told anything yet.
+    pub(crate) fn new(point: Point, before: u32) -> QuitAt {
+        QuitAt {
+            point,
+            before,
+            quits: 0,
+            tells: true,
+            claimed: 0,
+            flipped: 0,
+            committed: 0,
+        }
+    }
 
-    fn at(&mut self, point: Point) -> Step {
+    // What it answers at a point.
+    fn step(&mut self, point: Point) -> Step
+        ensures quits { self.new.quits ≡ self.old.quits + cond (is_quit result) 1 0 }
+        ensures same { (self.new.tells ≡ self.old.tells) × (self.new.claimed ≡ self.old.claimed) × (self.new.flipped ≡ self.old.flipped) × (self.new.committed ≡ self.old.committed) }
+    {
         if point != self.point || self.quits == u32::MAX {
             return Step::Go;
         }
@@ -47,8 +68,35 @@ impl Gate for QuitAt {
         self.quits += 1;
         Step::Quit
     }
+}
 
-    fn committed(&mut self) {}
+impl Gate for QuitAt {
+    ghost quits = { λ g. g.quits };
+
+    ghost heard = { λ g. cond g.tells (Some (record { ended = g.quits; claimed = g.claimed; flipped = g.flipped; committed = g.committed })) None };
+
+    fn at(&mut self, point: Point) -> Step {
+        let step = self.step(point);
+        match point {
+            Point::Claimed => match self.claimed.checked_add(1) {
+                Some(count) => self.claimed = count,
+                None => self.tells = false,
+            },
+            Point::Flipped => match self.flipped.checked_add(1) {
+                Some(count) => self.flipped = count,
+                None => self.tells = false,
+            },
+            _ => {}
+        }
+        step
+    }
+
+    fn committed(&mut self) {
+        match self.committed.checked_add(1) {
+            Some(count) => self.committed = count,
+            None => self.tells = false,
+        }
+    }
 }
 
 // What is left of a worker whose pass was taken back.

@@ -118,17 +118,27 @@ fn a_try_quits_at_each_point(rt: HostRuntime) -> Result<(), Fail> {
         (Point::Journal, 0, 1),
     ];
     for (point, before, marks) in rows {
-        let mut gate = QuitAt {
-            point,
-            before,
-            quits: 0,
-        };
+        let mut gate = QuitAt::new(point, before);
         let (made, ended) = attempted(rt.alloc(), &start, 8, &plan, &[ZEROS], &mut gate)?;
         assert!(rt; made.answers.get(0) == Some(&Tried::Quit) && gate.quits == 1);
         assert_eq!(rt; made.marks.list().len(), marks);
         assert!(rt; ended.journal.entries().is_empty());
         assert!(rt; ended.end.facets() == start.facets());
     }
+    Ok(())
+}
+
+#[test]
+fn a_gate_hears_of_a_flip_and_a_commit(rt: HostRuntime) -> Result<(), Fail> {
+    let start = complex(rt.alloc(), &OCTAHEDRON)?;
+    let plan = plan(1, 2)?;
+    // It would quit where place 0 is won a second time.
+    let mut gate = QuitAt::new(Point::Journal, 1);
+    let (made, _ended) = attempted(rt.alloc(), &start, 8, &plan, &[ZEROS], &mut gate)?;
+    assert!(rt; made.answers.get(0) == Some(&Tried::Committed(0)));
+    assert!(rt; gate.tells && gate.quits == 0);
+    // The place where it begins, and three labels more of the flip 1 2 3 | 7.
+    assert_eq!(rt; (gate.claimed, gate.flipped, gate.committed), (4, 1, 1));
     Ok(())
 }
 
@@ -203,11 +213,7 @@ fn a_run_makes_all_tries(rt: HostRuntime) -> Result<(), Fail> {
     let (made, _ended) = ran(rt.alloc(), &start, 8, &plan, &mut OpenGate)?;
     assert!(rt; made.free);
     assert_eq!(rt; (made.answers.len(), made.marks.list().len()), (12, 12));
-    let mut gate = QuitAt {
-        point: Point::Start,
-        before: 5,
-        quits: 0,
-    };
+    let mut gate = QuitAt::new(Point::Start, 5);
     let (made, _ended) = ran(rt.alloc(), &start, 8, &plan, &mut gate)?;
     assert!(rt; made.free && made.answers.get(5) == Some(&Tried::Quit));
     assert_eq!(rt; (made.answers.len(), made.marks.list().len()), (6, 5));

@@ -10,8 +10,10 @@ ghost use Rattle.anneal_plan.specs.Proposals.{proposal_of};
 ghost use Rattle.board_rule.specs.declared.data.Home.{Home as HomeOf};
 ghost use Rattle.vertex_claims.specs.Passes.{IsOf, IsSame, SameSlots, know, slot, spare, places_on};
 ghost use Rattle.held_stars.specs.Holding.{Story, Roomy};
+ghost use Rattle.held_stars.specs.Gates.{Follows, Keeps, after_asked, fails, noted_in};
 ghost use Rattle.round_rules.specs.Tasks.{Task, change, changes};
 ghost use Rattle.spec_worker.specs.Trying.{IsFit, IsTold, IsStoryOf, Turned, IsNext, Ended};
+ghost use Rattle.spec_worker.specs.Hearing.{is_quit};
 
 use anneal_plan::{Phase, proposal};
 use board_rule::{Home, Slot};
@@ -38,6 +40,7 @@ pub(crate) struct Order<'a> {
 pub(crate) fn ask<G: Gate>(gate: &mut G, point: Point) -> Result<(), Tried>
     ensures later { G.quits gate.old ≤ G.quits gate.new }
     ensures quit { IfErr result (λ answer. (answer ≡ Tried.Quit) × (G.quits gate.old < G.quits gate.new)) }
+    ensures heard { Follows (G.heard gate.old) (G.heard gate.new) (λ h g. g ≡ after_asked point (fails is_quit result) h) }
 {
     match gate.at(point) {
         Step::Go => Ok(()),
@@ -86,6 +89,7 @@ fn take_turn<G: Gate>(
     ensures ends { (task : Task) (s : Story) (next : List FlipOf) → task.dim ≡ dim → IsNext s dim pass.old hold.old flip.now next → IfErr result (Ended task s pass.new hold.new) }
     ensures later { G.quits gate.old ≤ G.quits gate.new }
     ensures quit { IfErr result (λ answer. answer ≡ Tried.Quit → G.quits gate.old < G.quits gate.new) }
+    ensures heard { Follows (G.heard gate.old) (G.heard gate.new) (Keeps (fails is_quit result) (noted_in (know pass.old).tries) (noted_in (know pass.new).tries) (length hold.old.flips.items) (length hold.new.flips.items)) }
 {
     let Some(labels) = flip.a.union(&flip.b) else {
         unreachable!()
@@ -125,6 +129,7 @@ pub(crate) fn make_turns<G: Gate>(
     ensures ends { (task : Task) (s : Story) → IsTold order.now dim task → IsStoryOf task s → Turned s pass.old hold.old s.flips → IfErr result (Ended task s pass.new hold.new) }
     ensures later { G.quits gate.old ≤ G.quits gate.new }
     ensures quit { IfErr result (λ answer. answer ≡ Tried.Quit → G.quits gate.old < G.quits gate.new) }
+    ensures heard { Follows (G.heard gate.old) (G.heard gate.new) (Keeps (fails is_quit result) (noted_in (know pass.old).tries) (noted_in (know pass.new).tries) (length hold.old.flips.items) (length hold.new.flips.items)) }
 {
     for turn in 0..order.count {
         let Some(flip) = propose(board, pass, order, turn) else {

@@ -48,6 +48,8 @@ impl Worker {
     ghost use Rattle.vertex_claims.specs.Passes.{marks_left, round_of};
     ghost use Rattle.round_rules.specs.Accounts.{OwnAll, Done, quits};
     ghost use Rattle.round_rules.specs.Own.{OwnTry};
+    ghost use Rattle.held_stars.specs.Gates.{Follows, noted_in};
+    ghost use Rattle.spec_worker.specs.Hearing.{RunHeard, TryHeard, flips_in};
     ghost use Rattle.spec_worker.specs.Workers.{Works, IsSameWorker, pass_of, number_of, tries_of, mine_of, answers_of, plan_of, round_in, live_of, free_of, task_of, task_in};
 
     /// A worker with a pass that holds nothing, and with the places that are used and that are free when
@@ -105,6 +107,9 @@ impl Worker {
         ensures empty { Empty (know (pass_of self.new)) }
         ensures later { G.quits gate.old ≤ G.quits gate.new }
         ensures quit { result ≡ Tried.Quit → G.quits gate.old < G.quits gate.new }
+
+        // What a gate hears of it, where it tells: it ends it exactly where the answer is a quit.
+        ensures heard { Follows (G.heard gate.old) (G.heard gate.new) (TryHeard result (noted_in (tries_of self.old)) (noted_in (tries_of self.new)) (flips_in (mine_of self.old)) (flips_in (mine_of self.new))) }
     {
         let answer = self.answer(board, words, phase, gate);
         self.keep(&answer);
@@ -139,6 +144,7 @@ impl Worker {
         ensures empty { Empty (know (pass_of self.new)) }
         ensures later { G.quits gate.old ≤ G.quits gate.new }
         ensures quit { result ≡ Tried.Quit → G.quits gate.old < G.quits gate.new }
+        ensures heard { Follows (G.heard gate.old) (G.heard gate.new) (TryHeard result (noted_in (tries_of self.old)) (noted_in (tries_of self.new)) (flips_in (mine_of self.old)) (flips_in (mine_of self.new))) }
     {
         if let Err(answer) = ask(gate, Point::Start) {
             return answer;
@@ -167,6 +173,7 @@ impl Worker {
         ensures own { OwnAll (task_in self.old board.now) (round_of board.now) (number_of self.old) (tries_of self.new) (answers_of self.new) (mine_of self.new) }
         ensures done { Done (plan_of self.old).tries (answers_of self.new) }
         ensures quits { G.quits gate.old + quits (answers_of self.new) ≤ G.quits gate.new }
+        ensures heard { Follows (G.heard gate.old) (G.heard gate.new) (RunHeard (tries_of self.new) (answers_of self.new)) }
     {
         let mut stream = self.plan.stream(self.round, self.pass.worker());
         for t in 0..self.plan.tries() {

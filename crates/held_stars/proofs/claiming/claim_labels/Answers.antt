@@ -4,6 +4,7 @@ use Rattle.complex_core.specs.Labels.{has}
 use Rattle.vertex_claims.specs.Passes.{know}
 use Rattle.held_stars.proofs.LentStars.{positive_at, has_here, same_passes, take_all}
 use Rattle.held_stars.proofs.Claims.{held_more}
+use Rattle.held_stars.proofs.Gates.{follows_both, keeps_both}
 use Rattle.held_stars.proofs.claiming.claim_labels.Goals as goal
 
 pub claim_label-requires-clause-label : goal.claim_label-requires-clause-label
@@ -47,7 +48,11 @@ loop-label-preserved g c =
       e.kept.0 ∙ inv.8,
       e.kept.1 ∙ inv.9,
       e.kept.2 ∙ inv.10,
+      follows_both _ _ _ _ _ _ inv.11 e.heard (λ h k g. keeps_both _ _ _ _ _ _ _ h k g),
     )
 
 pub returns-clause-held : goal.returns-clause-held
 returns-clause-held g c = λ q h. c.loop-label.invariant.5 q (ap (λ (l : List ℕ). has l q) (take_all c.args.labels.now c.loop-label.label-index c.loop-label-test.false) ∙ h)
+
+pub returns-in-Err-clause-heard : goal.returns-in-Err-clause-heard
+returns-in-Err-clause-heard g c = follows_both _ _ _ _ _ _ c.loop-label.invariant.11 c.in-Err.ensures.heard (λ h k g. keeps_both _ _ _ _ _ _ _ h k g)

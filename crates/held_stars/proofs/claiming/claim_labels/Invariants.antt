@@ -1,4 +1,4 @@
-use Rattle.std.proofs.Common.{◌≡◌, ◌≤◌, ◌+◌, ℕ, take, length, true}
+use Rattle.std.proofs.Common.{◌≡◌, ◌≤◌, ◌+◌, ℕ, take, length, true, false}
 use Rattle.complex_core.specs.Labels.{has}
 use Rattle.complex_core.specs.Spaces.{Space}
 use Rattle.board_rule.specs.Items.{has_item}
@@ -6,6 +6,7 @@ use Rattle.board_rule.specs.Views.{star_in}
 use Rattle.star_laws.specs.Stars.{flips_touch}
 use Rattle.vertex_claims.specs.Passes.{IsSame, know}
 use Rattle.held_stars.specs.Holding.{Story, Going, Made, Roomy}
+use Rattle.held_stars.specs.Gates.{Follows, Keeps, noted_in}
 use Rattle.held_stars.proofs.claiming.claim_labels.Given as goal
 
 abbrev pub invariant-loop-label : goal.invariant-loop-label
@@ -22,3 +23,4 @@ invariant-loop-label g l =
     × ((know l.pass).worker ≡ (know l.fn.pass).worker)
     × ((know l.pass).start ≡ (know l.fn.pass).start)
     × ((know l.pass).places ≡ (know l.fn.pass).places)
+    × Follows (g.G.Gate.heard l.fn.gate) (g.G.Gate.heard l.gate) (Keeps false (noted_in (know l.fn.pass).tries) (noted_in (know l.pass).tries) (length l.fn.hold.flips.items) (length l.hold.flips.items))

@@ -1,12 +1,13 @@
-use Rattle.std.proofs.Common.{arith}
+use Rattle.std.proofs.Common.{refl, arith}
 use Rattle.std.specs.Prelude.{◌≤◌}
 use Rattle.vertex_claims.specs.Passes.{places_on}
 use Rattle.held_stars.proofs.LentStars.{same_passes}
+use Rattle.held_stars.proofs.Gates.{follows_self, follows_then, follows_both, keeps_self, keeps_then, keeps_both, same_noted}
 use Rattle.spec_worker.proofs.Series.{here, free_positive, none_made, stopped, all_made, is_next, next_within, one_more, rest_of, rest_then}
 use Rattle.spec_worker.proofs.turning.make_turns.Goals as goal
 
 pub loop-turn-init : goal.loop-turn-init
-loop-turn-init g c = (none_made c.args.order.now c.args.dim (places_on c.args.board.now) c.args.pass.now c.args.hold.now c.requires.room.0 c.requires.room.1, omega arith)
+loop-turn-init g c = (none_made c.args.order.now c.args.dim (places_on c.args.board.now) c.args.pass.now c.args.hold.now c.requires.room.0 c.requires.room.1, omega arith, follows_self _ _ (keeps_self _ _ _ _ _ refl refl refl))
 
 pub propose-requires-clause-star : goal.propose-requires-clause-star
 propose-requires-clause-star g c =
@@ -58,7 +59,17 @@ loop-turn-preserved g c =
     let next = is_next o c.args.dim n c.loop-turn.turn c.args.pass.now c.args.hold.now c.loop-turn.pass c.propose.new.pass c.loop-turn.hold c.propose.result c.in-Some.flip i.0 c.loop-turn-test.true c.propose.ensures.known.0 c.propose.ensures.known.2 c.in-Some.is c.propose.ensures.proposal c.in-Some.ensures.fits in (
       one_more o c.args.dim n c.loop-turn.turn c.args.pass.now c.args.hold.now c.loop-turn.pass c.propose.new.pass c.take_turn.new.pass c.loop-turn.hold c.take_turn.new.hold c.in-Some.flip i.0 c.propose.ensures.same c.propose.ensures.known.0 e.same e.kept e.room e.flips within next e.turned,
       omega (arith, later, e.later),
+      follows_both _ _ _ _ _ _ (follows_then _ _ _ _ c.loop-turn.invariant.2 (keeps_then _ _ _ _ _ _ (same_noted _ _ c.propose.ensures.known.0))) e.heard (λ h k g. keeps_both _ _ _ _ _ _ _ h k g),
     )
 
 pub returns-clause-turned : goal.returns-clause-turned
 returns-clause-turned g c = all_made c.args.order.now c.args.dim (places_on c.args.board.now) c.loop-turn.turn c.args.pass.now c.args.hold.now c.loop-turn.pass c.loop-turn.hold c.loop-turn.invariant.0 (omega arith)
+
+pub returns-in_default-clause-heard : goal.returns-in_default-clause-heard
+returns-in_default-clause-heard g c = follows_then _ _ _ _ c.loop-turn.invariant.2 (keeps_then _ _ _ _ _ _ (same_noted _ _ c.propose.ensures.known.0))
+
+pub returns-in-Err-clause-heard : goal.returns-in-Err-clause-heard
+returns-in-Err-clause-heard g c = follows_both _ _ _ _ _ _ (follows_then _ _ _ _ c.loop-turn.invariant.2 (keeps_then _ _ _ _ _ _ (same_noted _ _ c.propose.ensures.known.0))) c.in-Err.ensures.heard (λ h k g. keeps_both _ _ _ _ _ _ _ h k g)
+
+pub returns-clause-heard : goal.returns-clause-heard
+returns-clause-heard g c = c.loop-turn.invariant.2

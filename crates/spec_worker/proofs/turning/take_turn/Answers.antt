@@ -1,5 +1,7 @@
-use Rattle.std.proofs.Common.{◌≡◌, ◌∙◌, Result, Ok, Err, OnOk, IfErr, sym}
+use Rattle.std.proofs.Common.{◌≡◌, ◌∙◌, Result, Ok, Err, OnOk, IfErr, [], ◌∷◌, length, length-append, sym, ap, refl}
 use Rattle.held_stars.proofs.MadeFlips.{union_touches, union_few, touch_one}
+use Rattle.held_stars.specs.Gates.{is_stop}
+use Rattle.held_stars.proofs.Gates.{follows_then, follows_both, keeps_as, keeps_self, keeps_flipped, keeps_both, same_noted}
 use Rattle.round_rules.specs.declared.tried.Tried.{Tried}
 use Rattle.round_rules.specs.declared.tried.Tried.TheVariants.{Quit}
 use Rattle.spec_worker.proofs.Turns.{all_among, next_shape, claimed, turned, ended_quit, ended_claim_quit, ended_busy, ended_memory, ended_blocked}
@@ -77,3 +79,24 @@ returns-in-Err-Memory-clause-ends g c = λ task s next is n.
     let m = c.in-Err-Memory.ensures in
     let t = claimed s c.args.dim c.args.pass.now c.claim_labels.new.pass c.args.hold.now c.claim_labels.new.hold c.args.flip.now next c.labels.result.now n (c.labels.ensures.labels ∙ c.in-Some.ensures.1) c.in-Some.ensures.0 e.hold.0 e.hold.3 e.held (e.going s) in
     ended_memory task s c.args.flip.now next c.claim_labels.new.pass c.make_flip.new.pass c.claim_labels.new.hold c.make_flip.new.hold t m.known.0 (m.restorable t.now t.made)
+
+pub returns-in-Err-Busy-clause-heard : goal.returns-in-Err-Busy-clause-heard
+returns-in-Err-Busy-clause-heard g c = follows_then _ _ _ _ c.in-Err-Busy.ensures.heard (keeps_as _ _ _ _ _ _ (ap is_stop c.in-Err-Busy.field-0-is))
+
+pub returns-in-Err-Quit-clause-heard : goal.returns-in-Err-Quit-clause-heard
+returns-in-Err-Quit-clause-heard g c = follows_then _ _ _ _ c.in-Err-Quit.ensures.heard (keeps_as _ _ _ _ _ _ (ap is_stop c.in-Err-Quit.field-0-is))
+
+pub returns-in-Ok-make_flip-clause-heard : goal.returns-in-Ok-make_flip-clause-heard
+returns-in-Ok-make_flip-clause-heard g c =
+    let m = c.in-Ok-make_flip.ensures in
+    follows_both _ _ _ _ _ _ c.in-Ok.ensures.heard c.ask.ensures.heard (λ h k g a e. keeps_both _ _ _ _ _ _ _ h k g a (keeps_flipped _ _ _ _ _ (same_noted _ _ m.known.0) (ap length m.flips.0 ∙ length-append c.claim_labels.new.hold.flips.items (c.args.flip.now ∷ [])) k g e))
+
+pub returns-in-Err-Illegal-clause-heard : goal.returns-in-Err-Illegal-clause-heard
+returns-in-Err-Illegal-clause-heard g c =
+    let m = c.in-Err-Illegal.ensures in
+    follows_then _ _ _ _ c.in-Ok.ensures.heard (λ h g a. keeps_both _ _ _ _ _ _ _ h g g a (keeps_self _ _ _ _ _ refl (same_noted _ _ m.known.0) (ap length m.flips.1) g))
+
+pub returns-in-Err-Memory-clause-heard : goal.returns-in-Err-Memory-clause-heard
+returns-in-Err-Memory-clause-heard g c =
+    let m = c.in-Err-Memory.ensures in
+    follows_then _ _ _ _ c.in-Ok.ensures.heard (λ h g a. keeps_both _ _ _ _ _ _ _ h g g a (keeps_self _ _ _ _ _ refl (same_noted _ _ m.known.0) (ap length m.flips.1) g))

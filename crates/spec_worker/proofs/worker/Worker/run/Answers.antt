@@ -1,4 +1,6 @@
 use Rattle.std.proofs.Common.{refl, arith, rules}
+use Rattle.held_stars.proofs.Gates.{follows_self, follows_both}
+use Rattle.spec_worker.proofs.Hearing.{none_heard, one_heard}
 use Rattle.spec_worker.proofs.WholeRuns.{IsDraw, stream_in, begins, equal_runs, first_draw, drawn_words, told_phase, next_draw, goes_on, last_quits, no_quits}
 use Rattle.spec_worker.proofs.worker.Worker.run.Goals as goal
 
@@ -8,6 +10,7 @@ loop-t-init g c =
       begins c.args.self.now _ c.args.board.now (record { pass = refl; plan = refl; round_is = refl; live = refl; free = refl; answers = refl }) c.requires.works fresh.0 fresh.1 fresh.2,
       first_draw c.args.self.now c.stream-stream.result c.worker.result (search rules) (search rules),
       omega arith,
+      follows_self _ _ (none_heard _ _ fresh.1 fresh.0),
     )
 
 pub loop-t-preserved : goal.loop-t-preserved
@@ -26,6 +29,7 @@ loop-t-preserved g c =
           (c.is_last.ensures.goes_on c.if-is_last.false),
       next_draw start c.loop-t.stream c.draw-words.new.words c.loop-t.t drawn c.draw-words.ensures.after,
       omega (arith, c.loop-t.invariant.2, c.attempt-answer.ensures.later),
+      follows_both _ _ _ _ _ _ c.loop-t.invariant.3 c.attempt-answer.ensures.heard (one_heard _ _ _ _ _ _ _ c.attempt-answer.ensures.answers),
     )
 
 pub returns-then-is_last-clause-quits : goal.returns-then-is_last-clause-quits
@@ -34,3 +38,10 @@ returns-then-is_last-clause-quits g c =
 
 pub returns-clause-quits : goal.returns-clause-quits
 returns-clause-quits g c = no_quits _ _ _ c.loop-t.invariant.0.calm c.loop-t.invariant.2
+
+pub returns-then-is_last-clause-heard : goal.returns-then-is_last-clause-heard
+returns-then-is_last-clause-heard g c =
+    follows_both _ _ _ _ _ _ c.loop-t.invariant.3 c.attempt-answer.ensures.heard (one_heard _ _ _ _ _ _ _ c.attempt-answer.ensures.answers)
+
+pub returns-clause-heard : goal.returns-clause-heard
+returns-clause-heard g c = c.loop-t.invariant.3

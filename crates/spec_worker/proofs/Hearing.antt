@@ -1,0 +1,167 @@
+-- What the gate of a worker hears, try after try.
+use Rattle.std.proofs.Common.{◌≡◌, ℕ, ◌+◌, Bool, false, cond, List, [], ◌∷◌, ◌++◌, length, length-append, Result, Ok, Err, IfOk, IfErr, sym, ◌∙◌, ap, refl, arith}
+use Rattle.flip_rules.specs.Entries.{JournalEntry}
+use Rattle.board_rule.specs.Tries.{Try}
+use Rattle.board_rule.proofs.Items.{off}
+use Rattle.vertex_claims.specs.Passes.{know}
+use Rattle.vertex_claims.specs.declared.pass.Pass.{Pass}
+use Rattle.held_stars.specs.Gates.{Heard, Keeps, after_asked, fails, noted_in}
+use Rattle.held_stars.specs.Holding.{Story}
+use Rattle.held_stars.specs.declared.hold.Hold.{Hold}
+use Rattle.held_stars.specs.declared.point.Point.TheVariants.{Start}
+use Rattle.round_rules.specs.Accounts.{quits}
+use Rattle.round_rules.specs.Tasks.{Task}
+use Rattle.round_rules.specs.declared.tried.Tried.{Tried}
+use Rattle.round_rules.specs.declared.tried.Tried.TheVariants.{Committed, Busy, Nothing, Blocked, Declined, Quit, NoMemory}
+use Rattle.spec_worker.specs.Trying.{Ended, Entered, Why}
+use Rattle.spec_worker.specs.Hearing.{TryHeard, RunHeard, after_made, commits, flips_in, is_commit, is_quit}
+use Rattle.spec_worker.specs.declared.turning.Order.{Order}
+use Rattle.spec_worker.proofs.BegunTries.{Begun}
+use Rattle.spec_worker.proofs.WholeRuns.{quits_snoc}
+
+-- ---- one try
+
+flips_snoc : (es : List JournalEntry) (e : JournalEntry) → flips_in (es ++ e ∷ []) ≡ flips_in es + length e.flips
+flips_snoc [] e = omega arith
+flips_snoc (x ∷ es) e = let h = flips_snoc es e in omega (arith, h)
+
+no_entry : (task : Task) (s : Story) (t : Try) (a : Tried) → Why task s t a → is_commit a ≡ false
+no_entry task s t (Committed n) why = absurd why
+no_entry task s t (Busy q o) why = refl
+no_entry task s t Nothing why = refl
+no_entry task s t (Blocked f) why = refl
+no_entry task s t (Declined c) why = refl
+no_entry task s t Quit why = refl
+no_entry task s t NoMemory why = refl
+
+-- the first place of a try is noted
+pub first_noted : (n : ℕ) → 1 + n ≡ n + 1
+first_noted n = omega arith
+
+-- the last of its claims and flips were made, and it was ended
+pub tried_heard : (task : Task) (o : Order) (a b c d : Pass) (h n : Hold) (dim round : ℕ) (g : Begun task o a b h dim) → (know d).mine ≡ (know c).mine → h.flips.items ≡ [] → (made : Result ℕ Tried) (answer : Tried)
+    → IfOk made (Entered task round g.story c n) → IfErr made (Ended task g.story c n) → IfOk made (λ seq. answer ≡ Committed seq) × IfErr made (λ why. answer ≡ why)
+    → (l p q r : ℕ) → p ≡ l + 1 → r ≡ q → (x k y : Heard) → Keeps (fails is_quit made) p (q + 1) (length h.flips.items) (length n.flips.items) x k → y ≡ after_made made k
+    → TryHeard answer l r (flips_in (know a).mine) (flips_in (know d).mine) x y
+tried_heard task o a b c d h n dim round g mine empty (Ok seq) answer entered ended is l p q r first last x k y keeps e =
+    let claims = ap (λ (t : Heard). t.claimed) e in
+    let flips = ap (λ (t : Heard). t.flipped) e in
+    let told = ap (λ (t : Heard). t.committed) e in
+    let claimed = keeps.claimed in
+    let made = keeps.flipped in
+    let same = keeps.committed in
+    let zero_then = ap length empty in
+    let all_now = ap length entered.flips in
+    let entries = ap flips_in (mine ∙ entered.row.entry) ∙ flips_snoc g.story.mine _ in
+    let were = ap flips_in g.mine in
+    let one = ap (λ (t : Tried). commits (t ∷ [])) is.0 in
+    let ended = ap (λ (t : Heard). t.ended) e in
+    let kept : k.ended ≡ x.ended + 0 = keeps.ended in
+    let none : cond {A = ℕ} (is_quit answer) 1 0 ≡ 0 = ap (λ (t : Tried). cond {A = ℕ} (is_quit t) 1 0) is.0 in
+    record {
+      ended = omega (arith, ended, kept, none);
+      claimed = omega (arith, claims, claimed, first, last);
+      flipped = λ _. omega (arith, flips, made, zero_then, all_now, entries, were);
+      committed = omega (arith, told, same, one);
+    }
+tried_heard task o a b c d h n dim round g mine empty (Err why) answer entered ended is l p q r first last x k y keeps e =
+    let claims = ap (λ (t : Heard). t.claimed) e in
+    let told = ap (λ (t : Heard). t.committed) e in
+    let claimed = keeps.claimed in
+    let same = keeps.committed in
+    let no : is_commit answer ≡ false = ap is_commit is.1 ∙ no_entry task g.story ended.try_now why ended.reason in
+    let zero_more : commits (answer ∷ []) ≡ 0 = ap (λ (t : Bool). cond t 1 0 + 0) no in
+    let ended = ap (λ (t : Heard). t.ended) e in
+    let kept = keeps.ended in
+    let quit = ap (λ (t : Tried). cond {A = ℕ} (is_quit t) 1 0) is.1 in
+    record {
+      ended = omega (arith, ended, kept, quit);
+      claimed = omega (arith, claims, claimed, first, last);
+      flipped = λ yes. off (sym no ∙ yes);
+      committed = omega (arith, told, same, zero_more);
+    }
+
+-- another worker had its place
+pub busy_heard : (p o l m n k : ℕ) → m ≡ 0 + l → (h : Heard) → TryHeard (Busy p o) l m n k h h
+busy_heard p o l m n k e h = record { ended = omega arith; claimed = omega (arith, e); flipped = λ yes. off yes; committed = omega arith }
+
+-- the gate ended it at its start
+pub quit_heard : (a : Tried) (l m n : ℕ) → a ≡ Quit → (h g : Heard) → g ≡ after_asked Start (is_quit a) h → TryHeard a l l m n h g
+quit_heard a l m n is h g e =
+    let claims = ap (λ (t : Heard). t.claimed) e in
+    let told = ap (λ (t : Heard). t.committed) e in
+    let zero_more = ap (λ (t : Tried). commits (t ∷ [])) is in
+    record {
+      ended = ap (λ (t : Heard). t.ended) e;
+      claimed = omega (arith, claims);
+      flipped = λ yes. off (sym (ap is_commit is) ∙ yes);
+      committed = omega (arith, told, zero_more);
+    }
+
+-- the gate let it begin
+pub begun_heard : (a : Tried) (l m n o : ℕ) (h k g : Heard) → k ≡ after_asked Start false h → TryHeard a l m n o k g → TryHeard a l m n o h g
+begun_heard a l m n o h k g e rest =
+    let claims = ap (λ (t : Heard). t.claimed) e in
+    let flips = ap (λ (t : Heard). t.flipped) e in
+    let told = ap (λ (t : Heard). t.committed) e in
+    let none : k.ended ≡ h.ended + 0 = ap (λ (t : Heard). t.ended) e in
+    let more = rest.claimed in
+    let all_told = rest.committed in
+    record {
+      ended = (let ended = rest.ended in omega (arith, none, ended));
+      claimed = omega (arith, claims, more);
+      flipped = λ yes. let made = rest.flipped yes in omega (arith, flips, made);
+      committed = omega (arith, told, all_told);
+    }
+
+-- its answer was kept
+pub kept_heard : (a : Tried) (l m n o p q : ℕ) → p ≡ m → q ≡ o → (h g : Heard) → TryHeard a l m n o h g → TryHeard a l p n q h g
+kept_heard a l m n o p q d e h g t = record {
+  ended = t.ended;
+  claimed = (let claimed = t.claimed in omega (arith, claimed, d));
+  flipped = λ yes. let made = t.flipped yes in omega (arith, made, e);
+  committed = t.committed;
+}
+
+-- ---- all tries
+
+commits_snoc : (xs : List Tried) (a : Tried) → commits (xs ++ a ∷ []) ≡ commits xs + commits (a ∷ [])
+commits_snoc [] a = omega arith
+commits_snoc (x ∷ xs) a = let h = commits_snoc xs a in omega (arith, h)
+
+one_quits : (a : Tried) → quits (a ∷ []) ≡ cond (is_quit a) 1 0
+one_quits (Committed n) = refl
+one_quits (Busy q o) = refl
+one_quits Nothing = refl
+one_quits (Blocked f) = refl
+one_quits (Declined c) = refl
+one_quits Quit = refl
+one_quits NoMemory = refl
+
+-- no try was made
+pub none_heard : (ts : List Try) (xs : List Tried) → ts ≡ [] → xs ≡ [] → (h : Heard) → RunHeard ts xs h h
+none_heard ts xs d e h =
+    let zero_noted = ap noted_in d in
+    let zero_told = ap commits e in
+    let zero_quits = ap quits e in
+    record { ended = omega (arith, zero_quits); none = λ _. refl; claimed = omega (arith, zero_noted); committed = omega (arith, zero_told) }
+
+-- one try more
+pub one_heard : (ts us : List Try) (xs ys : List Tried) (r : Tried) (m n : ℕ) → ys ≡ xs ++ r ∷ [] → (h k g : Heard) → RunHeard ts xs h k → TryHeard r (noted_in ts) (noted_in us) m n k g → RunHeard us ys h g
+one_heard ts us xs ys r m n e h k g was t =
+    let told = was.committed in
+    let more = t.committed in
+    let all_told = ap commits e ∙ commits_snoc xs r in
+    let claimed = was.claimed in
+    let claims = t.claimed in
+    let ended = was.ended in
+    let quit = t.ended in
+    let all_quits = ap quits e ∙ quits_snoc xs r in
+    let last = one_quits r in
+    let tries = ap length e ∙ length-append xs (r ∷ []) in
+    record {
+      ended = omega (arith, ended, quit, all_quits, last);
+      none = λ out. let zero_tries = ap length out in absurd (omega (arith, zero_tries, tries));
+      claimed = omega (arith, claimed, claims);
+      committed = omega (arith, told, more, all_told);
+    }
