@@ -3,3 +3,4 @@ pub mod MadeFlips
 pub mod GivenUp
 pub mod Claims
 pub mod Gates
+pub mod InOrder

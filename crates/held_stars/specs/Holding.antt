@@ -1,5 +1,5 @@
 -- What a worker holds of a board, and what it remembers of it.
-use Rattle.std.specs.Prelude.{◌≡◌, ◌≢◌, ◌⊎◌, ℕ, ◌+◌, ◌<◌, ◌≤◌, true, false, cond, List, [], ◌∷◌, ◌++◌, length, Some, vec_capacity}
+use Rattle.std.specs.Prelude.{◌≡◌, ◌≢◌, ◌⊎◌, ℕ, ◌+◌, ◌<◌, ◌≤◌, true, false, cond, List, [], ◌∷◌, ◌++◌, length, take, slice_index, Some, vec_capacity, ⊤}
 use Rattle.std.specs.List.{AllByRecursion}
 use mathlib.Core.Option.{some}
 use Rattle.complex_core.specs.Labels.{has}
@@ -146,3 +146,28 @@ pub record Ends (story : Story) (pass : Pass) (h : Hold) (why : Stopped) : Type 
 abbrev pub waits : Hand → List ℕ → Hand
 waits v [] = v
 waits v (o ∷ os) = counted (waits v os) 0 o
+
+-- ---- claims of labels in order
+
+-- how many labels of a list were won or held already when its claims ended at one of them: the one before which the gate ended the try was won
+abbrev pub gained : Stopped → ℕ → ℕ
+gained (Busy q o) i = i
+gained Quit i = i + 1
+
+-- a claim that was refused was of this label, and left what is held
+abbrev pub RefusedOf : ℕ → List (ℕ × HomeOf) → List (ℕ × HomeOf) → Stopped → Type 0
+RefusedOf label was now (Busy q o) = (q ≡ label) × (now ≡ was)
+RefusedOf label was now Quit = ⊤
+
+-- a place that is refused is this label
+abbrev pub IsAt : ℕ → Stopped → Type 0
+IsAt label (Busy q o) = q ≡ label
+IsAt label Quit = ⊤
+
+-- the claims of some labels, one after another, ended at one of them: those before it are held, and beside what was held nothing but these, with that one where it was won
+pub record EndedAt (labels : List ℕ) (was now : List (ℕ × HomeOf)) (why : Stopped) : Type 0 where
+  pub index : ℕ
+  pub within : index < length labels
+  pub before : (q : ℕ) → has (take index labels) q ≡ true → has_item now q ≡ true
+  pub only : (q : ℕ) → has_item now q ≡ true → (has_item was q ≡ true) ⊎ (has (take (gained why index) labels) q ≡ true)
+  pub at : IsAt (slice_index labels index) why

@@ -1,13 +1,13 @@
 //! Claims of the labels of a flip.
 
-ghost use Rattle.std.specs.Prelude.{◌≡◌, ◌+◌, ◌<◌, ◌≤◌, ℕ, true, false, IfErr, OnOk, OnErr, vec_capacity, length};
+ghost use Rattle.std.specs.Prelude.{◌≡◌, ◌⊎◌, ◌+◌, ◌<◌, ◌≤◌, ℕ, true, false, IfErr, OnOk, OnErr, vec_capacity, length};
 ghost use Rattle.complex_core.specs.Labels.{IsFace, has};
 ghost use Rattle.complex_core.specs.Spaces.{Space};
 ghost use Rattle.star_laws.specs.Stars.{flips_touch};
 ghost use Rattle.board_rule.specs.Items.{has_item};
 ghost use Rattle.board_rule.specs.Views.{star_in};
 ghost use Rattle.vertex_claims.specs.Passes.{IsOf, IsSame, know, places_on};
-ghost use Rattle.held_stars.specs.Holding.{Story, Going, Made, Ends, Roomy};
+ghost use Rattle.held_stars.specs.Holding.{Story, Going, Made, Ends, Roomy, RefusedOf, EndedAt};
 ghost use Rattle.held_stars.specs.Gates.{Follows, Keeps, after_asked, fails, is_stop, noted_in};
 
 use crate::gate::Gate;
@@ -45,6 +45,8 @@ fn claim_label<G: Gate>(
     ensures hold { (hold.new.flips.items ≡ hold.old.flips.items) × (hold.new.copies.items ≡ hold.old.copies.items) × Roomy hold.new × (length hold.new.places.items ≤ length hold.old.places.items + 1) }
     ensures held { (q : ℕ) → has_item (know pass.old).items q ≡ true → has_item (know pass.new).items q ≡ true }
     ensures label { OnOk result (has_item (know pass.new).items label ≡ true) }
+    ensures only { (q : ℕ) → has_item (know pass.new).items q ≡ true → (has_item (know pass.old).items q ≡ true) ⊎ (label ≡ q) }
+    ensures refused { IfErr result (RefusedOf label (know pass.old).items (know pass.new).items) }
     ensures going { (s : Story) (now : Space) → Going s (know pass.old) → flips_touch label s.flips ≡ true → Made pass.old hold.old now →
         OnOk result ((m : Space) × Going s (know pass.new) × Made pass.new hold.new m × (star_in m s.place ≡ star_in now s.place)) }
     ensures ends { (s : Story) (now : Space) → Going s (know pass.old) → flips_touch label s.flips ≡ true → Made pass.old hold.old now → IfErr result (Ends s pass.new hold.new) }
@@ -85,6 +87,8 @@ pub fn claim_labels<G: Gate>(
     ensures kept { ((know pass.new).worker ≡ (know pass.old).worker) × ((know pass.new).start ≡ (know pass.old).start) × ((know pass.new).places ≡ (know pass.old).places) }
     ensures hold { (hold.new.flips.items ≡ hold.old.flips.items) × (hold.new.copies.items ≡ hold.old.copies.items) × Roomy hold.new × (length hold.new.places.items ≤ length hold.old.places.items + length labels.now) }
     ensures held { OnOk result ((q : ℕ) → has labels.now q ≡ true → has_item (know pass.new).items q ≡ true) }
+    ensures only { (q : ℕ) → has_item (know pass.new).items q ≡ true → (has_item (know pass.old).items q ≡ true) ⊎ (has labels.now q ≡ true) }
+    ensures order { IfErr result (EndedAt labels.now (know pass.old).items (know pass.new).items) }
     ensures going { (s : Story) (now : Space) → Going s (know pass.old) → ((q : ℕ) → has labels.now q ≡ true → flips_touch q s.flips ≡ true) → Made pass.old hold.old now →
         OnOk result ((m : Space) × Going s (know pass.new) × Made pass.new hold.new m × (star_in m s.place ≡ star_in now s.place)) }
     ensures ends { (s : Story) (now : Space) → Going s (know pass.old) → ((q : ℕ) → has labels.now q ≡ true → flips_touch q s.flips ≡ true) → Made pass.old hold.old now → IfErr result (Ends s pass.new hold.new) }

@@ -1,10 +1,11 @@
-use Rattle.std.proofs.Common.{◌∙◌, List, ℕ, sym, ap, get_or, take, arith}
+use Rattle.std.proofs.Common.{◌∙◌, ◌+◌, List, ℕ, sym, ap, get_or, take, arith}
 use Rattle.std.proofs.lemmas.List.{take_more}
 use Rattle.complex_core.specs.Labels.{has}
 use Rattle.vertex_claims.specs.Passes.{know}
 use Rattle.held_stars.proofs.LentStars.{positive_at, has_here, same_passes, take_all}
 use Rattle.held_stars.proofs.Claims.{held_more}
 use Rattle.held_stars.proofs.Gates.{follows_both, keeps_both}
+use Rattle.held_stars.proofs.InOrder.{only_next, only_some, only_all, ended_at}
 use Rattle.held_stars.proofs.claiming.claim_labels.Goals as goal
 
 pub claim_label-requires-clause-label : goal.claim_label-requires-clause-label
@@ -49,6 +50,7 @@ loop-label-preserved g c =
       e.kept.1 ∙ inv.9,
       e.kept.2 ∙ inv.10,
       follows_both _ _ _ _ _ _ inv.11 e.heard (λ h k g. keeps_both _ _ _ _ _ _ _ h k g),
+      only_next labels i (know c.args.pass.now).items (know c.loop-label.pass).items (know c.claim_label.new.pass).items c.loop-label-test.true inv.12 e.only,
     )
 
 pub returns-clause-held : goal.returns-clause-held
@@ -56,3 +58,16 @@ returns-clause-held g c = λ q h. c.loop-label.invariant.5 q (ap (λ (l : List �
 
 pub returns-in-Err-clause-heard : goal.returns-in-Err-clause-heard
 returns-in-Err-clause-heard g c = follows_both _ _ _ _ _ _ c.loop-label.invariant.11 c.in-Err.ensures.heard (λ h k g. keeps_both _ _ _ _ _ _ _ h k g)
+
+pub returns-in-Err-clause-only : goal.returns-in-Err-clause-only
+returns-in-Err-clause-only g c =
+    only_some c.args.labels.now (c.loop-label.label-index + 1) (know c.args.pass.now).items (know c.claim_label.new.pass).items
+    (only_next c.args.labels.now c.loop-label.label-index (know c.args.pass.now).items (know c.loop-label.pass).items (know c.claim_label.new.pass).items c.loop-label-test.true c.loop-label.invariant.12 c.in-Err.ensures.only)
+
+pub returns-in-Err-clause-order : goal.returns-in-Err-clause-order
+returns-in-Err-clause-order g c =
+    ended_at c.args.labels.now c.loop-label.label-index (know c.args.pass.now).items (know c.loop-label.pass).items (know c.claim_label.new.pass).items c.in-Err.answer c.loop-label-test.true
+    c.loop-label.invariant.5 c.in-Err.ensures.held c.loop-label.invariant.12 c.in-Err.ensures.only c.in-Err.ensures.refused
+
+pub returns-clause-only : goal.returns-clause-only
+returns-clause-only g c = only_all c.args.labels.now c.loop-label.label-index (know c.args.pass.now).items (know c.loop-label.pass).items c.loop-label-test.false c.loop-label.invariant.12

@@ -7,6 +7,7 @@ use Rattle.star_laws.specs.Stars.{flips_touch}
 use Rattle.vertex_claims.specs.Passes.{IsSame, know}
 use Rattle.held_stars.specs.Holding.{Story, Going, Made, Roomy}
 use Rattle.held_stars.specs.Gates.{Follows, Keeps, noted_in}
+use Rattle.held_stars.proofs.InOrder.{OnlyMore}
 use Rattle.held_stars.proofs.claiming.claim_labels.Given as goal
 
 abbrev pub invariant-loop-label : goal.invariant-loop-label
@@ -24,3 +25,4 @@ invariant-loop-label g l =
     × ((know l.pass).start ≡ (know l.fn.pass).start)
     × ((know l.pass).places ≡ (know l.fn.pass).places)
     × Follows (g.G.Gate.heard l.fn.gate) (g.G.Gate.heard l.gate) (Keeps false (noted_in (know l.fn.pass).tries) (noted_in (know l.pass).tries) (length l.fn.hold.flips.items) (length l.hold.flips.items))
+    × OnlyMore (know l.fn.pass).items (know l.pass).items (take l.label-index l.labels)
