@@ -5,12 +5,17 @@ use Rattle.std.specs.List.Sorted.{IsStrictlySortedBy}
 use Rattle.std.specs.Cmp.Lexicographic.{nat_list_cmp_total}
 use Rattle.std.specs.Ordering.{nat_cmp}
 use Rattle.complex_core.specs.Labels.{IsFace, has, without, face_cmp}
+use Rattle.complex_core.specs.Rising.{rising}
 use Rattle.complex_core.specs.Subsets.{subsets_of}
 use Rattle.complex_core.proofs.Sets.{above_tail, sorted_rising}
 use Rattle.complex_core.proofs.Faces.{face_filter}
 use Rattle.complex_core.proofs.Laws.{nat_eq_same, has-without, holds_has, listed, listed-append, listed-rising, length-without, sorted_without}
 use Rattle.complex_core.proofs.SubsetLists.{two, clash, Chosen, chosen_is, fewer, part_is_face}
-use Rattle.anneal_plan.specs.Faces.{IsRow, AreRows, parts_of}
+use Rattle.anneal_plan.specs.Faces.{IsRow, AreRows}
+
+-- the sets of n labels of the rows, each without the vertex, rising
+unfoldable pub parts_of : List (List ℕ) → ℕ → ℕ → List (List ℕ)
+parts_of rows p n = rising face_cmp (flat_map (λ row. subsets_of n (without row p)) rows)
 
 -- what one of several lists has
 pub listed-flat_map : (f : List ℕ → List (List ℕ)) (rows : List (List ℕ)) (s : List ℕ) → listed (flat_map f rows) s ≡ list_any (λ row. listed (f row) s) rows

@@ -1,10 +1,8 @@
 -- The faces of a star that have its vertex, and the flips that take them out.
 use Rattle.std.specs.Prelude.{◌≡◌, ℕ, ◌≤◌, ◌<◌, true, not, if◌then◌else◌, List, [], length, filter, Option, Some, None}
-use Rattle.std.specs.List.{flat_map, filter_map, AllByRecursion}
+use Rattle.std.specs.List.{filter_map, AllByRecursion}
 use Rattle.std.specs.Result.{is_ok}
-use Rattle.complex_core.specs.Labels.{IsFace, has, without, face_cmp}
-use Rattle.complex_core.specs.Rising.{rising}
-use Rattle.complex_core.specs.Subsets.{subsets_of}
+use Rattle.complex_core.specs.Labels.{IsFace, has}
 use Rattle.flip_rules.specs.Flips.{why_near}
 use Rattle.flip_rules.specs.declared.flip.Flip.{Flip}
 use Rattle.anneal_plan.specs.Proposals.{flip_of, opposite}
@@ -17,10 +15,6 @@ pub record IsRow (p : ℕ) (row : List ℕ) : Type 0 where
 
 abbrev pub AreRows : ℕ → List (List ℕ) → Type 0
 AreRows p rows = (0 < p) × AllByRecursion (IsRow p) rows
-
--- the sets of n labels of the rows, each without the vertex, rising
-unfoldable pub parts_of : List (List ℕ) → ℕ → ℕ → List (List ℕ)
-parts_of rows p n = rising face_cmp (flat_map (λ row. subsets_of n (without row p)) rows)
 
 -- the flip that takes a face out, where the facets over it are those of a flip
 abbrev pub flip_at : ℕ → List (List ℕ) → List ℕ → Option Flip
