@@ -28,8 +28,10 @@ follows_both P Q R a b (Some g) p q f =
 pub keeps_self : (ends : Bool) (p p2 f f2 : ℕ) → ends ≡ false → p2 ≡ p → f2 ≡ f → (h : Heard) → Keeps ends p p2 f f2 h h
 keeps_self ends p p2 f f2 e noted flips h = record {
   ended = (let none : cond {A = ℕ} ends 1 0 ≡ 0 = ap (λ (b : Bool). cond {A = ℕ} b 1 0) e in omega (arith, none));
+  started = refl;
   claimed = omega (arith, noted);
   flipped = omega (arith, flips);
+  fetched = omega arith;
   committed = refl;
 }
 
@@ -38,10 +40,13 @@ pub keeps_claimed : (ends : Bool) (p p2 f f2 : ℕ) → p2 ≡ p + 1 → f2 ≡ 
 keeps_claimed ends p p2 f f2 noted flips h g e =
     let c = ap (λ (k : Heard). k.claimed) e in
     let l = ap (λ (k : Heard). k.flipped) e in
+    let fetches = ap (λ (k : Heard). k.fetched) e in
     record {
       ended = ap (λ (k : Heard). k.ended) e;
+      started = ap (λ (k : Heard). k.started) e;
       claimed = omega (arith, noted, c);
       flipped = omega (arith, flips, l);
+      fetched = omega (arith, fetches);
       committed = ap (λ (k : Heard). k.committed) e;
     }
 
@@ -50,10 +55,13 @@ pub keeps_flipped : (ends : Bool) (p p2 f f2 : ℕ) → p2 ≡ p → f2 ≡ f + 
 keeps_flipped ends p p2 f f2 noted flips h g e =
     let c = ap (λ (k : Heard). k.claimed) e in
     let l = ap (λ (k : Heard). k.flipped) e in
+    let fetches = ap (λ (k : Heard). k.fetched) e in
     record {
       ended = ap (λ (k : Heard). k.ended) e;
+      started = ap (λ (k : Heard). k.started) e;
       claimed = omega (arith, noted, c);
       flipped = omega (arith, flips, l);
+      fetched = omega (arith, fetches);
       committed = ap (λ (k : Heard). k.committed) e;
     }
 
@@ -62,10 +70,13 @@ pub keeps_journal : (ends : Bool) (p p2 f : ℕ) → p2 ≡ p → (h g : Heard) 
 keeps_journal ends p p2 f noted h g e =
     let c = ap (λ (k : Heard). k.claimed) e in
     let l = ap (λ (k : Heard). k.flipped) e in
+    let fetches = ap (λ (k : Heard). k.fetched) e in
     record {
       ended = ap (λ (k : Heard). k.ended) e;
+      started = ap (λ (k : Heard). k.started) e;
       claimed = omega (arith, noted, c);
       flipped = omega (arith, l);
+      fetched = omega (arith, fetches);
       committed = ap (λ (k : Heard). k.committed) e;
     }
 
@@ -78,24 +89,28 @@ keeps_both ends p p2 p3 f f2 f3 h k g a b =
     let v = b.flipped in
     let x : k.ended ≡ h.ended + 0 = a.ended in
     let y = b.ended in
+    let w = a.fetched in
+    let z = b.fetched in
     record {
       ended = omega (arith, x, y);
+      started = b.started ∙ a.started;
       claimed = omega (arith, c, d);
       flipped = omega (arith, u, v);
+      fetched = omega (arith, w, z);
       committed = b.committed ∙ a.committed;
     }
 
 -- said of the same answer otherwise
 pub keeps_as : (ends other : Bool) (p p2 f f2 : ℕ) → ends ≡ other → (h g : Heard) → Keeps ends p p2 f f2 h g → Keeps other p p2 f f2 h g
-keeps_as ends other p p2 f f2 e h g k = record { ended = k.ended ∙ ap (λ (b : Bool). h.ended + cond b 1 0) e; claimed = k.claimed; flipped = k.flipped; committed = k.committed }
+keeps_as ends other p p2 f f2 e h g k = record { ended = k.ended ∙ ap (λ (b : Bool). h.ended + cond b 1 0) e; started = k.started; claimed = k.claimed; flipped = k.flipped; fetched = k.fetched; committed = k.committed }
 
 -- one place more, of which it was asked
 pub keeps_more : (ends : Bool) (p p2 f f2 : ℕ) (h g : Heard) → Keeps ends p p2 f f2 h g → Keeps ends (p + 1) (p2 + 1) f f2 h g
-keeps_more ends p p2 f f2 h g k = record { ended = k.ended; claimed = (let c = k.claimed in omega (arith, c)); flipped = k.flipped; committed = k.committed }
+keeps_more ends p p2 f f2 h g k = record { ended = k.ended; started = k.started; claimed = (let c = k.claimed in omega (arith, c)); flipped = k.flipped; fetched = k.fetched; committed = k.committed }
 
 -- the same number of places is noted afterwards
 pub keeps_then : (ends : Bool) (p p2 p3 f f2 : ℕ) → p3 ≡ p2 → (h g : Heard) → Keeps ends p p2 f f2 h g → Keeps ends p p3 f f2 h g
-keeps_then ends p p2 p3 f f2 noted h g k = record { ended = k.ended; claimed = (let c = k.claimed in omega (arith, noted, c)); flipped = k.flipped; committed = k.committed }
+keeps_then ends p p2 p3 f f2 noted h g k = record { ended = k.ended; started = k.started; claimed = (let c = k.claimed in omega (arith, noted, c)); flipped = k.flipped; fetched = k.fetched; committed = k.committed }
 
 -- ---- notes
 

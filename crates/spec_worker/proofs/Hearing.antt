@@ -6,18 +6,36 @@ use Rattle.board_rule.proofs.Items.{off}
 use Rattle.vertex_claims.specs.Passes.{know}
 use Rattle.vertex_claims.specs.declared.pass.Pass.{Pass}
 use Rattle.held_stars.specs.Gates.{Heard, Keeps, after_asked, fails, noted_in}
+use Rattle.held_stars.proofs.Gates.{keeps_both, keeps_more}
 use Rattle.held_stars.specs.Holding.{Story}
 use Rattle.held_stars.specs.declared.hold.Hold.{Hold}
-use Rattle.held_stars.specs.declared.point.Point.TheVariants.{Start}
+use Rattle.held_stars.specs.declared.point.Point.TheVariants.{Start, Journal}
 use Rattle.round_rules.specs.Accounts.{quits}
 use Rattle.round_rules.specs.Tasks.{Task}
 use Rattle.round_rules.specs.declared.tried.Tried.{Tried}
 use Rattle.round_rules.specs.declared.tried.Tried.TheVariants.{Committed, Busy, Nothing, Blocked, Declined, Quit, NoMemory}
 use Rattle.spec_worker.specs.Trying.{Ended, Entered, Why}
-use Rattle.spec_worker.specs.Hearing.{TryHeard, RunHeard, after_made, commits, flips_in, is_commit, is_quit}
+use Rattle.spec_worker.specs.Hearing.{Concludes, TryHeard, RunHeard, after_made, commits, flips_in, is_commit, is_quit}
 use Rattle.spec_worker.specs.declared.turning.Order.{Order}
 use Rattle.spec_worker.proofs.BegunTries.{Begun}
 use Rattle.spec_worker.proofs.WholeRuns.{quits_snoc}
+
+-- ---- the end of a try
+
+-- it ended without an entry
+pub ends_here : (a : Tried) (p p2 f f2 : ℕ) (h g : Heard) → Keeps (is_quit a) p p2 f f2 h g → Concludes (Err a) p p2 f f2 h g
+ends_here a p p2 f f2 h g k = record { keeps = k; fetched = λ yes. off yes }
+
+-- its flips were committed, after the gate was asked at the journal
+pub commits_here : (n p p2 f f2 : ℕ) (h g : Heard) → Keeps false p p2 f f2 h g → g ≡ after_asked Journal false h → Concludes (Ok n) p p2 f f2 h g
+commits_here n p p2 f f2 h g k e = let fetches = ap (λ (t : Heard). t.fetched) e in record { keeps = k; fetched = λ _. omega (arith, fetches) }
+
+-- its end after its turns
+pub concludes_then : (made : Result ℕ Tried) (p p2 p3 f f2 f3 : ℕ) (h k g : Heard) → Keeps false p (p2 + 1) f f2 h k → Concludes made p2 p3 f2 f3 k g → Concludes made p (p3 + 1) f f3 h g
+concludes_then made p p2 p3 f f2 f3 h k g a b = record {
+  keeps = keeps_both (fails is_quit made) p (p2 + 1) (p3 + 1) f f2 f3 h k g a (keeps_more (fails is_quit made) p2 p3 f2 f3 k g b.keeps);
+  fetched = λ yes. let before = a.fetched in let after = b.fetched yes in omega (arith, before, after);
+}
 
 -- ---- one try
 
@@ -41,14 +59,19 @@ first_noted n = omega arith
 -- the last of its claims and flips were made, and it was ended
 pub tried_heard : (task : Task) (o : Order) (a b c d : Pass) (h n : Hold) (dim round : ℕ) (g : Begun task o a b h dim) → (know d).mine ≡ (know c).mine → h.flips.items ≡ [] → (made : Result ℕ Tried) (answer : Tried)
     → IfOk made (Entered task round g.story c n) → IfErr made (Ended task g.story c n) → IfOk made (λ seq. answer ≡ Committed seq) × IfErr made (λ why. answer ≡ why)
-    → (l p q r : ℕ) → p ≡ l + 1 → r ≡ q → (x k y : Heard) → Keeps (fails is_quit made) p (q + 1) (length h.flips.items) (length n.flips.items) x k → y ≡ after_made made k
-    → TryHeard answer l r (flips_in (know a).mine) (flips_in (know d).mine) x y
-tried_heard task o a b c d h n dim round g mine empty (Ok seq) answer entered ended is l p q r first last x k y keeps e =
+    → (l p q r : ℕ) → p ≡ l + 1 → r ≡ q → (x k y : Heard) → Concludes made p (q + 1) (length h.flips.items) (length n.flips.items) x k → y ≡ after_made made k
+    → TryHeard 0 answer l r (flips_in (know a).mine) (flips_in (know d).mine) x y
+tried_heard task o a b c d h n dim round g mine empty (Ok seq) answer entered ended is l p q r first last x k y concludes e =
+    let keeps = concludes.keeps in
+    let starts = ap (λ (t : Heard). t.started) e in
     let claims = ap (λ (t : Heard). t.claimed) e in
     let flips = ap (λ (t : Heard). t.flipped) e in
+    let fetches = ap (λ (t : Heard). t.fetched) e in
     let told = ap (λ (t : Heard). t.committed) e in
+    let begun = keeps.started in
     let claimed = keeps.claimed in
     let made = keeps.flipped in
+    let fetched = concludes.fetched refl in
     let same = keeps.committed in
     let zero_then = ap length empty in
     let all_now = ap length entered.flips in
@@ -60,13 +83,18 @@ tried_heard task o a b c d h n dim round g mine empty (Ok seq) answer entered en
     let none : cond {A = ℕ} (is_quit answer) 1 0 ≡ 0 = ap (λ (t : Tried). cond {A = ℕ} (is_quit t) 1 0) is.0 in
     record {
       ended = omega (arith, ended, kept, none);
+      started = omega (arith, starts, begun);
       claimed = omega (arith, claims, claimed, first, last);
       flipped = λ _. omega (arith, flips, made, zero_then, all_now, entries, were);
+      fetched = λ _. omega (arith, fetches, fetched);
       committed = omega (arith, told, same, one);
     }
-tried_heard task o a b c d h n dim round g mine empty (Err why) answer entered ended is l p q r first last x k y keeps e =
+tried_heard task o a b c d h n dim round g mine empty (Err why) answer entered ended is l p q r first last x k y concludes e =
+    let keeps = concludes.keeps in
+    let starts = ap (λ (t : Heard). t.started) e in
     let claims = ap (λ (t : Heard). t.claimed) e in
     let told = ap (λ (t : Heard). t.committed) e in
+    let begun = keeps.started in
     let claimed = keeps.claimed in
     let same = keeps.committed in
     let no : is_commit answer ≡ false = ap is_commit is.1 ∙ no_entry task g.story ended.try_now why ended.reason in
@@ -76,30 +104,34 @@ tried_heard task o a b c d h n dim round g mine empty (Err why) answer entered e
     let quit = ap (λ (t : Tried). cond {A = ℕ} (is_quit t) 1 0) is.1 in
     record {
       ended = omega (arith, ended, kept, quit);
+      started = omega (arith, starts, begun);
       claimed = omega (arith, claims, claimed, first, last);
       flipped = λ yes. off (sym no ∙ yes);
+      fetched = λ yes. off (sym no ∙ yes);
       committed = omega (arith, told, same, zero_more);
     }
 
 -- another worker had its place
-pub busy_heard : (p o l m n k : ℕ) → m ≡ 0 + l → (h : Heard) → TryHeard (Busy p o) l m n k h h
-busy_heard p o l m n k e h = record { ended = omega arith; claimed = omega (arith, e); flipped = λ yes. off yes; committed = omega arith }
+pub busy_heard : (p o l m n k : ℕ) → m ≡ 0 + l → (h : Heard) → TryHeard 0 (Busy p o) l m n k h h
+busy_heard p o l m n k e h = record { ended = omega arith; started = omega arith; claimed = omega (arith, e); flipped = λ yes. off yes; fetched = λ yes. off yes; committed = omega arith }
 
 -- the gate ended it at its start
-pub quit_heard : (a : Tried) (l m n : ℕ) → a ≡ Quit → (h g : Heard) → g ≡ after_asked Start (is_quit a) h → TryHeard a l l m n h g
+pub quit_heard : (a : Tried) (l m n : ℕ) → a ≡ Quit → (h g : Heard) → g ≡ after_asked Start (is_quit a) h → TryHeard 1 a l l m n h g
 quit_heard a l m n is h g e =
     let claims = ap (λ (t : Heard). t.claimed) e in
     let told = ap (λ (t : Heard). t.committed) e in
     let zero_more = ap (λ (t : Tried). commits (t ∷ [])) is in
     record {
       ended = ap (λ (t : Heard). t.ended) e;
+      started = ap (λ (t : Heard). t.started) e;
       claimed = omega (arith, claims);
       flipped = λ yes. off (sym (ap is_commit is) ∙ yes);
+      fetched = λ yes. off (sym (ap is_commit is) ∙ yes);
       committed = omega (arith, told, zero_more);
     }
 
 -- the gate let it begin
-pub begun_heard : (a : Tried) (l m n o : ℕ) (h k g : Heard) → k ≡ after_asked Start false h → TryHeard a l m n o k g → TryHeard a l m n o h g
+pub begun_heard : (a : Tried) (l m n o : ℕ) (h k g : Heard) → k ≡ after_asked Start false h → TryHeard 0 a l m n o k g → TryHeard 1 a l m n o h g
 begun_heard a l m n o h k g e rest =
     let claims = ap (λ (t : Heard). t.claimed) e in
     let flips = ap (λ (t : Heard). t.flipped) e in
@@ -107,19 +139,26 @@ begun_heard a l m n o h k g e rest =
     let none : k.ended ≡ h.ended + 0 = ap (λ (t : Heard). t.ended) e in
     let more = rest.claimed in
     let all_told = rest.committed in
+    let starts = ap (λ (t : Heard). t.started) e in
+    let no_more = rest.started in
+    let fetches = ap (λ (t : Heard). t.fetched) e in
     record {
       ended = (let ended = rest.ended in omega (arith, none, ended));
+      started = omega (arith, starts, no_more);
       claimed = omega (arith, claims, more);
       flipped = λ yes. let made = rest.flipped yes in omega (arith, flips, made);
+      fetched = λ yes. let won = rest.fetched yes in omega (arith, fetches, won);
       committed = omega (arith, told, all_told);
     }
 
 -- its answer was kept
-pub kept_heard : (a : Tried) (l m n o p q : ℕ) → p ≡ m → q ≡ o → (h g : Heard) → TryHeard a l m n o h g → TryHeard a l p n q h g
+pub kept_heard : (a : Tried) (l m n o p q : ℕ) → p ≡ m → q ≡ o → (h g : Heard) → TryHeard 1 a l m n o h g → TryHeard 1 a l p n q h g
 kept_heard a l m n o p q d e h g t = record {
   ended = t.ended;
+  started = t.started;
   claimed = (let claimed = t.claimed in omega (arith, claimed, d));
   flipped = λ yes. let made = t.flipped yes in omega (arith, made, e);
+  fetched = t.fetched;
   committed = t.committed;
 }
 
@@ -144,10 +183,11 @@ none_heard ts xs d e h =
     let zero_noted = ap noted_in d in
     let zero_told = ap commits e in
     let zero_quits = ap quits e in
-    record { ended = omega (arith, zero_quits); none = λ _. refl; claimed = omega (arith, zero_noted); committed = omega (arith, zero_told) }
+    let zero_tries = ap length e in
+    record { ended = omega (arith, zero_quits); started = omega (arith, zero_tries); none = λ _. refl; claimed = omega (arith, zero_noted); committed = omega (arith, zero_told) }
 
 -- one try more
-pub one_heard : (ts us : List Try) (xs ys : List Tried) (r : Tried) (m n : ℕ) → ys ≡ xs ++ r ∷ [] → (h k g : Heard) → RunHeard ts xs h k → TryHeard r (noted_in ts) (noted_in us) m n k g → RunHeard us ys h g
+pub one_heard : (ts us : List Try) (xs ys : List Tried) (r : Tried) (m n : ℕ) → ys ≡ xs ++ r ∷ [] → (h k g : Heard) → RunHeard ts xs h k → TryHeard 1 r (noted_in ts) (noted_in us) m n k g → RunHeard us ys h g
 one_heard ts us xs ys r m n e h k g was t =
     let told = was.committed in
     let more = t.committed in
@@ -159,8 +199,11 @@ one_heard ts us xs ys r m n e h k g was t =
     let all_quits = ap quits e ∙ quits_snoc xs r in
     let last = one_quits r in
     let tries = ap length e ∙ length-append xs (r ∷ []) in
+    let starts = was.started in
+    let start = t.started in
     record {
       ended = omega (arith, ended, quit, all_quits, last);
+      started = omega (arith, starts, start, tries);
       none = λ out. let zero_tries = ap length out in absurd (omega (arith, zero_tries, tries));
       claimed = omega (arith, claimed, claims);
       committed = omega (arith, told, more, all_told);

@@ -14,7 +14,7 @@ ghost use Rattle.held_stars.specs.Gates.{Follows, Keeps, fails, noted_in};
 ghost use Rattle.round_rules.specs.Tasks.{Task, changes};
 ghost use Rattle.round_rules.specs.Own.{OwnTry};
 ghost use Rattle.spec_worker.specs.Trying.{IsFit, IsTold, IsStoryOf, Turned, Ended, Entered};
-ghost use Rattle.spec_worker.specs.Hearing.{TryHeard, after_made, flips_in, is_quit};
+ghost use Rattle.spec_worker.specs.Hearing.{Concludes, TryHeard, after_made, flips_in, is_quit};
 
 use crate::turning::{Order, ask, changes_of, make_turns};
 use anneal_plan::{Phase, allowed};
@@ -73,7 +73,7 @@ fn conclude<G: Gate>(
     ensures ends { (task : Task) (s : Story) → IsTold order.now dim task → IsStoryOf task s → Turned s pass.old hold.now [] → IfErr result (Ended task s pass.new hold.now) }
     ensures later { G.quits gate.old ≤ G.quits gate.new }
     ensures quit { IfErr result (λ answer. answer ≡ Tried.Quit → G.quits gate.old < G.quits gate.new) }
-    ensures heard { Follows (G.heard gate.old) (G.heard gate.new) (Keeps (fails is_quit result) (noted_in (know pass.old).tries) (noted_in (know pass.new).tries) (length hold.now.flips.items) (length hold.now.flips.items)) }
+    ensures heard { Follows (G.heard gate.old) (G.heard gate.new) (Concludes result (noted_in (know pass.old).tries) (noted_in (know pass.new).tries) (length hold.now.flips.items) (length hold.now.flips.items)) }
 {
     if hold.flips.is_empty() {
         return Err(Tried::Nothing);
@@ -119,7 +119,7 @@ fn explore<G: Gate>(
     ensures quit { IfErr result (λ answer. answer ≡ Tried.Quit → G.quits gate.old < G.quits gate.new) }
 
     // The first place was noted before the gate is asked about it.
-    ensures heard { Follows (G.heard gate.old) (G.heard gate.new) (Keeps (fails is_quit result) (noted_in (know pass.old).tries) (noted_in (know pass.new).tries + 1) (length hold.old.flips.items) (length hold.new.flips.items)) }
+    ensures heard { Follows (G.heard gate.old) (G.heard gate.new) (Concludes result (noted_in (know pass.old).tries) (noted_in (know pass.new).tries + 1) (length hold.old.flips.items) (length hold.new.flips.items)) }
 {
     ask(gate, Point::Claimed)?;
     make_turns(board, pass, hold, alloc, gate, dim, order)?;
@@ -197,7 +197,7 @@ pub(crate) fn try_at<G: Gate>(
         (t : Try) × ((know pass.new).tries ≡ t ∷ (know pass.old).tries) × OwnTry task (round_of board.now) (know pass.old).worker t (know pass.old).mine (know pass.new).mine result }
     ensures later { G.quits gate.old ≤ G.quits gate.new }
     ensures quit { result ≡ Tried.Quit → G.quits gate.old < G.quits gate.new }
-    ensures heard { Follows (G.heard gate.old) (G.heard gate.new) (TryHeard result (noted_in (know pass.old).tries) (noted_in (know pass.new).tries) (flips_in (know pass.old).mine) (flips_in (know pass.new).mine)) }
+    ensures heard { Follows (G.heard gate.old) (G.heard gate.new) (TryHeard 0 result (noted_in (know pass.old).tries) (noted_in (know pass.new).tries) (flips_in (know pass.old).mine) (flips_in (know pass.new).mine)) }
 {
     match begin_at(board, pass, hold, order.place) {
         Ok(dim) => {

@@ -34,8 +34,10 @@ pub(crate) struct QuitAt {
     pub(crate) before: u32,
     pub(crate) quits: u32,
     pub(crate) tells: bool,
+    pub(crate) started: u32,
     pub(crate) claimed: u32,
     pub(crate) flipped: u32,
+    pub(crate) fetched: u32,
     pub(crate) committed: u32,
 }
 
@@ -47,8 +49,10 @@ impl QuitAt {
             before,
             quits: 0,
             tells: true,
+            started: 0,
             claimed: 0,
             flipped: 0,
+            fetched: 0,
             committed: 0,
         }
     }
@@ -56,7 +60,7 @@ impl QuitAt {
     // What it answers at a point.
     fn step(&mut self, point: Point) -> Step
         ensures quits { self.new.quits ≡ self.old.quits + cond (is_quit result) 1 0 }
-        ensures same { (self.new.tells ≡ self.old.tells) × (self.new.claimed ≡ self.old.claimed) × (self.new.flipped ≡ self.old.flipped) × (self.new.committed ≡ self.old.committed) }
+        ensures same { (self.new.tells ≡ self.old.tells) × (self.new.started ≡ self.old.started) × (self.new.claimed ≡ self.old.claimed) × (self.new.flipped ≡ self.old.flipped) × (self.new.fetched ≡ self.old.fetched) × (self.new.committed ≡ self.old.committed) }
     {
         if point != self.point || self.quits == u32::MAX {
             return Step::Go;
@@ -73,11 +77,15 @@ impl QuitAt {
 impl Gate for QuitAt {
     ghost quits = { λ g. g.quits };
 
-    ghost heard = { λ g. cond g.tells (Some (record { ended = g.quits; claimed = g.claimed; flipped = g.flipped; committed = g.committed })) None };
+    ghost heard = { λ g. cond g.tells (Some (record { ended = g.quits; started = g.started; claimed = g.claimed; flipped = g.flipped; fetched = g.fetched; committed = g.committed })) None };
 
     fn at(&mut self, point: Point) -> Step {
         let step = self.step(point);
         match point {
+            Point::Start => match self.started.checked_add(1) {
+                Some(count) => self.started = count,
+                None => self.tells = false,
+            },
             Point::Claimed => match self.claimed.checked_add(1) {
                 Some(count) => self.claimed = count,
                 None => self.tells = false,
@@ -86,7 +94,10 @@ impl Gate for QuitAt {
                 Some(count) => self.flipped = count,
                 None => self.tells = false,
             },
-            _ => {}
+            Point::Journal => match self.fetched.checked_add(1) {
+                Some(count) => self.fetched = count,
+                None => self.tells = false,
+            },
         }
         step
     }

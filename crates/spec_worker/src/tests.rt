@@ -139,6 +139,7 @@ fn a_gate_hears_of_a_flip_and_a_commit(rt: HostRuntime) -> Result<(), Fail> {
     assert!(rt; gate.tells && gate.quits == 0);
     // The place where it begins, and three labels more of the flip 1 2 3 | 7.
     assert_eq!(rt; (gate.claimed, gate.flipped, gate.committed), (4, 1, 1));
+    assert!(rt; gate.started == 1 && gate.fetched == 1);
     Ok(())
 }
 

@@ -109,7 +109,7 @@ impl Worker {
         ensures quit { result ≡ Tried.Quit → G.quits gate.old < G.quits gate.new }
 
         // What a gate hears of it, where it tells: it ends it exactly where the answer is a quit.
-        ensures heard { Follows (G.heard gate.old) (G.heard gate.new) (TryHeard result (noted_in (tries_of self.old)) (noted_in (tries_of self.new)) (flips_in (mine_of self.old)) (flips_in (mine_of self.new))) }
+        ensures heard { Follows (G.heard gate.old) (G.heard gate.new) (TryHeard 1 result (noted_in (tries_of self.old)) (noted_in (tries_of self.new)) (flips_in (mine_of self.old)) (flips_in (mine_of self.new))) }
     {
         let answer = self.answer(board, words, phase, gate);
         self.keep(&answer);
@@ -144,7 +144,7 @@ impl Worker {
         ensures empty { Empty (know (pass_of self.new)) }
         ensures later { G.quits gate.old ≤ G.quits gate.new }
         ensures quit { result ≡ Tried.Quit → G.quits gate.old < G.quits gate.new }
-        ensures heard { Follows (G.heard gate.old) (G.heard gate.new) (TryHeard result (noted_in (tries_of self.old)) (noted_in (tries_of self.new)) (flips_in (mine_of self.old)) (flips_in (mine_of self.new))) }
+        ensures heard { Follows (G.heard gate.old) (G.heard gate.new) (TryHeard 1 result (noted_in (tries_of self.old)) (noted_in (tries_of self.new)) (flips_in (mine_of self.old)) (flips_in (mine_of self.new))) }
     {
         if let Err(answer) = ask(gate, Point::Start) {
             return answer;

@@ -2,6 +2,7 @@ use Rattle.std.proofs.Common.{◌∷◌, ◌∙◌, w32, rules, sym, subst, refl
 use lib.IntN.{ℤ}
 use mir.Val.{SFits}
 use Rattle.std.proofs.lemmas.Int.{to_z-of_z}
+use Rattle.spec_worker.proofs.Hearing.{ends_here, commits_here}
 use Rattle.held_stars.proofs.Gates.{follows_self, follows_then, keeps_self, keeps_journal, same_noted, noted_waiting}
 use Rattle.vertex_claims.specs.Passes.{round_of, know, entry_of}
 use Rattle.round_rules.specs.declared.tried.Tried.TheVariants.{Declined}
@@ -91,27 +92,27 @@ returns-clause-kept g c =
     told_entered (know c.args.pass.now) (know c.journal_room.new.self) (know c.commit.new.self) (entry_of c.journal_room.new.self c.args.board.now c.deref-2.result.now) made.0 (told_won (know c.args.pass.now) (know c.journal_room.new.self) won.0 won.1.entries (c.journal_room.ensures.known ∙ won.3)) made.1
 
 pub returns-then-is_empty-clause-heard : goal.returns-then-is_empty-clause-heard
-returns-then-is_empty-clause-heard g c = follows_self _ _ (keeps_self _ _ _ _ _ refl refl refl)
+returns-then-is_empty-clause-heard g c = follows_self _ _ (λ h. ends_here _ _ _ _ _ h h (keeps_self _ _ _ _ _ refl refl refl h))
 
 pub returns-in-Err-clause-heard : goal.returns-in-Err-clause-heard
-returns-in-Err-clause-heard g c = follows_self _ _ (keeps_self _ _ _ _ _ refl refl refl)
+returns-in-Err-clause-heard g c = follows_self _ _ (λ h. ends_here _ _ _ _ _ h h (keeps_self _ _ _ _ _ refl refl refl h))
 
 pub returns-in-Err-fetch-clause-heard : goal.returns-in-Err-fetch-clause-heard
 returns-in-Err-fetch-clause-heard g c =
     let lost = c.in-Err-fetch.ensures.lost in
-    follows_self _ _ (keeps_self _ _ _ _ _ refl (same_noted _ _ lost.3 ∙ noted_waiting (know c.args.pass.now) (c.in-Err-fetch.owner ∷ lost.0)) refl)
+    follows_self _ _ (λ h. ends_here _ _ _ _ _ h h (keeps_self _ _ _ _ _ refl (same_noted _ _ lost.3 ∙ noted_waiting (know c.args.pass.now) (c.in-Err-fetch.owner ∷ lost.0)) refl h))
 
 pub returns-in-Err-ask-clause-heard : goal.returns-in-Err-ask-clause-heard
 returns-in-Err-ask-clause-heard g c =
     let won = c.in_default-fetch.ensures.won in
-    follows_then _ _ _ _ c.in-Err-ask.ensures.heard (keeps_journal _ _ _ _ (same_noted _ _ c.leave_journal.ensures.known ∙ (same_noted _ _ won.3 ∙ noted_waiting (know c.args.pass.now) won.0)))
+    follows_then _ _ _ _ c.in-Err-ask.ensures.heard (λ h g e. ends_here _ _ _ _ _ h g (keeps_journal _ _ _ _ (same_noted _ _ c.leave_journal.ensures.known ∙ (same_noted _ _ won.3 ∙ noted_waiting (know c.args.pass.now) won.0)) h g e))
 
 pub returns-then-is_err-clause-heard : goal.returns-then-is_err-clause-heard
 returns-then-is_err-clause-heard g c =
     let won = c.in_default-fetch.ensures.won in
-    follows_then _ _ _ _ c.in_default-ask.ensures.heard (keeps_journal _ _ _ _ (same_noted _ _ c.leave_journal-then-is_err.ensures.known ∙ (same_noted _ _ (c.journal_room.ensures.known ∙ won.3) ∙ noted_waiting (know c.args.pass.now) won.0)))
+    follows_then _ _ _ _ c.in_default-ask.ensures.heard (λ h g e. ends_here _ _ _ _ _ h g (keeps_journal _ _ _ _ (same_noted _ _ c.leave_journal-then-is_err.ensures.known ∙ (same_noted _ _ (c.journal_room.ensures.known ∙ won.3) ∙ noted_waiting (know c.args.pass.now) won.0)) h g e))
 
 pub returns-clause-heard : goal.returns-clause-heard
 returns-clause-heard g c =
     let won = c.in_default-fetch.ensures.won in
-    follows_then _ _ _ _ c.in_default-ask.ensures.heard (keeps_journal _ _ _ _ (same_noted _ _ c.commit.ensures.known.1 ∙ (same_noted _ _ (c.journal_room.ensures.known ∙ won.3) ∙ noted_waiting (know c.args.pass.now) won.0)))
+    follows_then _ _ _ _ c.in_default-ask.ensures.heard (λ h g e. commits_here _ _ _ _ _ h g (keeps_journal _ _ _ _ (same_noted _ _ c.commit.ensures.known.1 ∙ (same_noted _ _ (c.journal_room.ensures.known ∙ won.3) ∙ noted_waiting (know c.args.pass.now) won.0)) h g e) e)
