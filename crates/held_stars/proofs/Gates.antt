@@ -5,7 +5,7 @@ use Rattle.board_rule.specs.declared.data.Home.{Home as HomeOf}
 use Rattle.board_rule.specs.declared.view.Hand.{Hand}
 use Rattle.held_stars.specs.Gates.{Heard, Follows, Keeps, after_asked, noted_in}
 use Rattle.held_stars.specs.Holding.{waits}
-use Rattle.held_stars.specs.declared.point.Point.TheVariants.{Claimed, Flipped, Journal}
+use Rattle.held_stars.specs.declared.point.Point.TheVariants.{Claimed, Flipped}
 
 -- nothing was asked or told
 pub follows_self : (P : Heard → Heard → Type 0) (a : Option Heard) → ((h : Heard) → P h h) → Follows a a P
@@ -31,7 +31,7 @@ keeps_self ends p p2 f f2 e noted flips h = record {
   started = refl;
   claimed = omega (arith, noted);
   flipped = omega (arith, flips);
-  fetched = omega arith;
+  fetched = refl;
   committed = refl;
 }
 
@@ -40,13 +40,12 @@ pub keeps_claimed : (ends : Bool) (p p2 f f2 : ℕ) → p2 ≡ p + 1 → f2 ≡ 
 keeps_claimed ends p p2 f f2 noted flips h g e =
     let c = ap (λ (k : Heard). k.claimed) e in
     let l = ap (λ (k : Heard). k.flipped) e in
-    let fetches = ap (λ (k : Heard). k.fetched) e in
     record {
       ended = ap (λ (k : Heard). k.ended) e;
       started = ap (λ (k : Heard). k.started) e;
       claimed = omega (arith, noted, c);
       flipped = omega (arith, flips, l);
-      fetched = omega (arith, fetches);
+      fetched = ap (λ (k : Heard). k.fetched) e;
       committed = ap (λ (k : Heard). k.committed) e;
     }
 
@@ -55,28 +54,12 @@ pub keeps_flipped : (ends : Bool) (p p2 f f2 : ℕ) → p2 ≡ p → f2 ≡ f + 
 keeps_flipped ends p p2 f f2 noted flips h g e =
     let c = ap (λ (k : Heard). k.claimed) e in
     let l = ap (λ (k : Heard). k.flipped) e in
-    let fetches = ap (λ (k : Heard). k.fetched) e in
     record {
       ended = ap (λ (k : Heard). k.ended) e;
       started = ap (λ (k : Heard). k.started) e;
       claimed = omega (arith, noted, c);
       flipped = omega (arith, flips, l);
-      fetched = omega (arith, fetches);
-      committed = ap (λ (k : Heard). k.committed) e;
-    }
-
--- it was asked at the journal
-pub keeps_journal : (ends : Bool) (p p2 f : ℕ) → p2 ≡ p → (h g : Heard) → g ≡ after_asked Journal ends h → Keeps ends p p2 f f h g
-keeps_journal ends p p2 f noted h g e =
-    let c = ap (λ (k : Heard). k.claimed) e in
-    let l = ap (λ (k : Heard). k.flipped) e in
-    let fetches = ap (λ (k : Heard). k.fetched) e in
-    record {
-      ended = ap (λ (k : Heard). k.ended) e;
-      started = ap (λ (k : Heard). k.started) e;
-      claimed = omega (arith, noted, c);
-      flipped = omega (arith, l);
-      fetched = omega (arith, fetches);
+      fetched = ap (λ (k : Heard). k.fetched) e;
       committed = ap (λ (k : Heard). k.committed) e;
     }
 
@@ -89,14 +72,12 @@ keeps_both ends p p2 p3 f f2 f3 h k g a b =
     let v = b.flipped in
     let x : k.ended ≡ h.ended + 0 = a.ended in
     let y = b.ended in
-    let w = a.fetched in
-    let z = b.fetched in
     record {
       ended = omega (arith, x, y);
       started = b.started ∙ a.started;
       claimed = omega (arith, c, d);
       flipped = omega (arith, u, v);
-      fetched = omega (arith, w, z);
+      fetched = b.fetched ∙ a.fetched;
       committed = b.committed ∙ a.committed;
     }
 

@@ -56,11 +56,11 @@ abbrev pub noted_in : List Try → ℕ
 noted_in [] = 0
 noted_in (t ∷ rest) = length t.note + noted_in rest
 
--- so many places were noted and flips made before and so many now: the gate was asked once for each new one, wasn't asked as a try begins, was told of no commit, and one answer of it ended the try or none did
+-- so many places were noted and flips made before and so many now: the gate was asked once for each new one, wasn't asked as a try begins or at the journal, was told of no commit, and one answer of it ended the try or none did
 pub record Keeps (ends : Bool) (noted_then noted_now flips_then flips_now : ℕ) (h g : Heard) : Type 0 where
   pub ended : g.ended ≡ h.ended + cond ends 1 0
   pub started : g.started ≡ h.started
   pub claimed : g.claimed + noted_then ≡ h.claimed + noted_now
   pub flipped : g.flipped + flips_then ≡ h.flipped + flips_now
-  pub fetched : h.fetched ≤ g.fetched
+  pub fetched : g.fetched ≡ h.fetched
   pub committed : g.committed ≡ h.committed

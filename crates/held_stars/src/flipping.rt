@@ -1,8 +1,9 @@
 //! Flips on the stars that a worker holds.
 
-ghost use Rattle.std.specs.Prelude.{◌≡◌, ◌+◌, ◌*◌, ◌<◌, ◌≤◌, ◌++◌, ◌∷◌, [], OnOk, OnErr, IfErr, Ok, vec_capacity, length};
+ghost use Rattle.std.specs.Prelude.{◌≡◌, ◌+◌, ◌*◌, ◌<◌, ◌≤◌, ◌++◌, ◌∷◌, [], OnOk, OnErr, IfErr, Ok, Err, vec_capacity, length};
 ghost use Rattle.complex_core.specs.Spaces.{Space};
 ghost use Rattle.flip_rules.specs.Flips.{why, flipped, FlipRefused, Shaped, OfFaces};
+ghost use Rattle.flip_rules.specs.declared.flip.Illegal.{Illegal};
 ghost use Rattle.star_laws.specs.Stars.{LabelsPass};
 ghost use Rattle.stars.specs.StarViews.{AreStarsOf, HasLabels};
 ghost use Rattle.stars.specs.FlipsHere.{stars_flipped};
@@ -30,6 +31,7 @@ fn flip_near(
     ensures legal { (k : Space) → AreStarsOf k near.old.items → OnOk result (why k flip.now.a flip.now.b ≡ Ok tt) }
     ensures stars { (k : Space) → AreStarsOf k near.old.items → OnOk result (AreStarsOf (flipped k flip.now.a flip.now.b) near.new.items) }
     ensures why { (k : Space) → AreStarsOf k near.old.items → IfErr result (FlipRefused (why k flip.now.a flip.now.b)) }
+    ensures told { (k : Space) (e : Illegal) → AreStarsOf k near.old.items → why k flip.now.a flip.now.b ≡ Err e → result ≡ Err (FlipFault.Illegal e) }
     ensures err { OnErr result (near.new.items ≡ near.old.items) }
     ensures ok { OnOk result (near.new.items ≡ stars_flipped near.old.items flip.now.a flip.now.b) }
     ensures copies { Copies copies.old.items near.old.items copies.new.items }
@@ -49,8 +51,8 @@ fn flip_near(
 /// Makes a flip whose labels are all held, on their stars, and keeps a copy of each that has none.
 ///
 /// # Errors
-/// `Illegal` where the flip isn't legal, and `Memory` where there isn't enough of it. Then the stars
-/// that are held are as before.
+/// `Illegal` where the flip isn't legal, and `Memory` where it is legal and there isn't enough of it.
+/// Then the stars that are held are as before.
 pub fn make_flip(
     board: &Board,
     pass: &mut Pass,
@@ -69,6 +71,7 @@ pub fn make_flip(
     ensures legal { (now : Space) → Made pass.old hold.old now → OnOk result (why now flip.now.a flip.now.b ≡ Ok tt) }
     ensures made { (now : Space) → Made pass.old hold.old now → OnOk result (Made pass.new hold.new (flipped now flip.now.a flip.now.b)) }
     ensures why { (now : Space) → Made pass.old hold.old now → IfErr result (FlipRefused (why now flip.now.a flip.now.b)) }
+    ensures told { (now : Space) (e : Illegal) → Made pass.old hold.old now → why now flip.now.a flip.now.b ≡ Err e → result ≡ Err (FlipFault.Illegal e) }
     ensures restorable { (now : Space) → Made pass.old hold.old now → OnErr result (Restorable pass.new hold.new) }
     ensures flips { (OnOk result (hold.new.flips.items ≡ hold.old.flips.items ++ flip.now ∷ [])) × (OnErr result (hold.new.flips.items ≡ hold.old.flips.items)) }
     ensures places { hold.new.places.items ≡ hold.old.places.items }

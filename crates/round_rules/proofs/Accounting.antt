@@ -48,7 +48,7 @@ adds_row task round w t was now flips Nothing o = none_added was now Nothing o.2
 adds_row task round w t was now flips (Blocked f) o = none_added was now (Blocked f) o.1 refl refl
 adds_row task round w t was now flips (Declined c) o = none_added was now (Declined c) o.1 refl refl
 adds_row task round w t was now flips Quit o = none_added was now Quit o refl refl
-adds_row task round w t was now flips NoMemory o = none_added was now NoMemory o refl refl
+adds_row task round w t was now flips NoMemory o = none_added was now NoMemory o.1 refl refl
 
 adds : (task : Task) (round w : ℕ) (t : Try) (was now : List JournalEntry) (a : Tried) (b : Bool) → t.won ≡ b → OwnTry task round w t was now a → Adds was now a
 adds task round w t was now a true is o = let r = o.won is in adds_row task round w t was now (turns_of task r.home.star) a r.row

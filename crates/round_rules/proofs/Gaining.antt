@@ -41,7 +41,7 @@ gains_row task d round w t was now flips Nothing is h o = subst (AllByRecursion 
 gains_row task d round w t was now flips (Blocked f) is h o = subst (AllByRecursion (Gains d)) (sym o.1) h
 gains_row task d round w t was now flips (Declined c) is h o = subst (AllByRecursion (Gains d)) (sym o.1) h
 gains_row task d round w t was now flips Quit is h o = subst (AllByRecursion (Gains d)) (sym o) h
-gains_row task d round w t was now flips NoMemory is h o = subst (AllByRecursion (Gains d)) (sym o) h
+gains_row task d round w t was now flips NoMemory is h o = subst (AllByRecursion (Gains d)) (sym o.1) h
 
 gains_try : (task : Task) (d round w : ℕ) (t : Try) (was now : List JournalEntry) (a : Tried) (b : Bool) → t.won ≡ b → task.dim ≡ d → AllByRecursion (Gains d) was → OwnTry task round w t was now a → AllByRecursion (Gains d) now
 gains_try task d round w t was now a true won is h o = let r = o.won won in gains_row task d round w t was now (turns_of task r.home.star) a is h r.row

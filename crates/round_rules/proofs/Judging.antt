@@ -114,7 +114,8 @@ row_of s entries w task tries t home was now rest flips (Blocked g) dim noted f 
 row_of s entries w task tries t home was now rest flips (Declined c) dim noted f own latest h o =
     let d = o.0 in record { some = d.some; legal = legal_of s entries w t home task.dim flips dim f h d.legal; sum = d.sum; above = d.above; unrefused = d.unrefused }
 row_of s entries w task tries t home was now rest flips Quit dim noted f own latest h o = tt
-row_of s entries w task tries t home was now rest flips NoMemory dim noted f own latest h o = tt
+row_of s entries w task tries t home was now rest flips NoMemory dim noted f own latest h o =
+    let m = o.0 in record { front = m.made; rest = m.next; some = m.some; first = m.first; legal = legal_of s entries w t home task.dim m.made dim f h m.legal; vertices = m.vertices; journal = m.journal }
 
 -- no try without a flip answers anything else
 idle_of : (s : Scene) (entries : List JournalEntry) (w : ℕ) (task : Task) (earlier version : ℕ) (m : Mark) (flips : List Flip) (a : Tried) → flips ≡ [] → Row s entries w task earlier version m flips a → Idle a
@@ -128,8 +129,12 @@ idle_of s entries w task earlier version m flips (Blocked f) none r = absurd (no
     no_member [] f rest h = cc
     no_member (g ∷ gs) f rest h = cc
 idle_of s entries w task earlier version m flips (Declined c) none r = absurd (r.some none)
-idle_of s entries w task earlier version m flips Quit none r = inr (inl refl)
-idle_of s entries w task earlier version m flips NoMemory none r = inr (inr refl)
+idle_of s entries w task earlier version m flips Quit none r = inr refl
+idle_of s entries w task earlier version m flips NoMemory none r = absurd (r.some (none_in r.front r.rest (sym r.first ∙ none)))
+  where
+    none_in : (front rest : List Flip) → front ++ rest ≡ [] → front ≡ []
+    none_in [] rest h = refl
+    none_in (g ∷ gs) rest h = cc
 
 -- the star that the note has of the try's place is the one that the version tells
 pub home_is : (s : Scene) (entries : List JournalEntry) (w : ℕ) (t : Try) (home : Home) → (f : Fitting s entries w t) → AtHome t home → home.star ≡ star_at s t.place (star_of f.fits.there t.place)

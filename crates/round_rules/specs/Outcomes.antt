@@ -94,6 +94,16 @@ pub record CommittedRow (s : Scene) (entries : List JournalEntry) (w : ℕ) (tas
   pub vertices : m.vertices ≡ 0
   pub journal : m.journal < 64
 
+-- memory was wanted for one of the flips, which is legal after those before it, or for their entry
+pub record WantedRow (s : Scene) (entries : List JournalEntry) (w earlier version : ℕ) (m : Mark) (flips : List Flip) : Type 0 where
+  pub front : List Flip
+  pub rest : List Flip
+  pub some : front ≢ []
+  pub first : flips ≡ front ++ rest
+  pub legal : LegalAfter s entries w earlier m.place version front
+  pub vertices : m.vertices ≡ 0
+  pub journal : m.journal < 64
+
 -- the row of an answer, for the flips that the try proposes
 abbrev pub Row : Scene → List JournalEntry → ℕ → Task → ℕ → ℕ → Mark → List Flip → Tried → Type 0
 Row s entries w task earlier version m flips (Committed n) = CommittedRow s entries w task earlier version m n flips
@@ -102,11 +112,11 @@ Row s entries w task earlier version m flips Nothing = (flips ≡ []) × Unrefus
 Row s entries w task earlier version m flips (Blocked f) = BlockedRow s entries w earlier version m f flips
 Row s entries w task earlier version m flips (Declined c) = DeclinedRow s entries w task earlier version m c flips
 Row s entries w task earlier version m flips Quit = ⊤
-Row s entries w task earlier version m flips NoMemory = ⊤
+Row s entries w task earlier version m flips NoMemory = WantedRow s entries w earlier version m flips
 
 -- the answer of a try without a flip
 abbrev pub Idle : Tried → Type 0
-Idle a = (a ≡ Nothing) ⊎ (a ≡ Quit) ⊎ (a ≡ NoMemory)
+Idle a = (a ≡ Nothing) ⊎ (a ≡ Quit)
 
 -- a try that won its place at a version: its flips are proposed at the star that the place had then
 pub record WonRow (s : Scene) (entries : List JournalEntry) (w : ℕ) (task : Task) (earlier version : ℕ) (m : Mark) (a : Tried) : Type 0 where

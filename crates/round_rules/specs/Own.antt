@@ -85,6 +85,16 @@ pub record CommittedOwn (task : Task) (round w : ℕ) (t : Try) (s : ℕ) (was n
   pub vertices : t.vertices ≡ 0
   pub journal : t.journal < 64
 
+-- memory was wanted for one of the flips, which is legal after those before it, or for their entry
+pub record WantedOwn (task : Task) (t : Try) (flips : List Flip) : Type 0 where
+  pub made : List Flip
+  pub next : List Flip
+  pub some : made ≢ []
+  pub first : flips ≡ made ++ next
+  pub legal : ReplaysOn task.dim t.note made
+  pub vertices : t.vertices ≡ 0
+  pub journal : t.journal < 64
+
 -- the row of an answer: of a try, with the flips that it proposes, and the entries of the worker before it and after it
 abbrev pub OwnRow : Task → ℕ → ℕ → Try → List JournalEntry → List JournalEntry → List Flip → Tried → Type 0
 OwnRow task round w t was now flips (Committed s) = CommittedOwn task round w t s was now flips
@@ -93,7 +103,7 @@ OwnRow task round w t was now flips Nothing = (flips ≡ []) × Unrefused t × (
 OwnRow task round w t was now flips (Blocked f) = BlockedOwn task t f flips × (now ≡ was)
 OwnRow task round w t was now flips (Declined c) = DeclinedOwn task t c flips × (now ≡ was)
 OwnRow task round w t was now flips Quit = now ≡ was
-OwnRow task round w t was now flips NoMemory = now ≡ was
+OwnRow task round w t was now flips NoMemory = WantedOwn task t flips × (now ≡ was)
 
 -- a try whose first claim was won, at a star with a version: what it noted beside its own place are labels of its flips
 pub record WonOwn (task : Task) (round w : ℕ) (t : Try) (was now : List JournalEntry) (a : Tried) : Type 0 where

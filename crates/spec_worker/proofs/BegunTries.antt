@@ -147,7 +147,7 @@ why_row task round s t was now Nothing why same = (why.0, why.1, same)
 why_row task round s t was now (Blocked f) why same = (why, same)
 why_row task round s t was now (Declined c) why same = (why, same)
 why_row task round s t was now Quit why same = same
-why_row task round s t was now NoMemory why same = same
+why_row task round s t was now NoMemory why same = (why, same)
 
 -- a try whose first claim was won, as the worker says it
 won_own : (task : Task) (round : ℕ) (s : Story) (v : Hand) (t : Try) (now : List JournalEntry) (answer : Tried) → IsStoryOf task s → Noting s v t → OwnRow task round s.worker t s.mine now s.flips answer → OwnTry task round s.worker t s.mine now answer

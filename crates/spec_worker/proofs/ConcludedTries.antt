@@ -30,7 +30,7 @@ use Rattle.held_stars.proofs.MadeFlips.{made_restorable}
 use Rattle.round_rules.specs.Own.{ReplaysOn}
 use Rattle.round_rules.specs.Tasks.{Task, changes}
 use Rattle.round_rules.specs.declared.tried.Tried.{Tried}
-use Rattle.round_rules.specs.declared.tried.Tried.TheVariants.{Busy, Nothing, Declined, Quit}
+use Rattle.round_rules.specs.declared.tried.Tried.TheVariants.{Busy, Nothing, Declined, Quit, NoMemory}
 use Rattle.spec_worker.specs.declared.turning.Order.{Order}
 use Rattle.spec_worker.specs.Trying.{IsTold, IsStoryOf, Turned, Ended, Entered, Why}
 
@@ -279,6 +279,21 @@ left_behind task s a b c h os entries answer t won slots left puts why =
 pub left_quit : (task : Task) (s : Story) (a b c : Pass) (h : Hold) (os : List ℕ) (entries : List JournalEntry) (answer : Tried) → answer ≡ Quit → Turned s a h [] → know b ≡ with_journal (waits (know a) os) entries → ((q : ℕ) → q ≢ 0 → slot b q ≡ slot a q)
     → know c ≡ without_journal (know b) → Puts b c 0 none → Ended task s c h answer
 left_quit task s a b c h os entries answer is t won slots left puts = subst (Ended task s c h) (sym is) (left_behind task s a b c h os entries Quit t won slots left puts tt)
+
+-- and there was no memory for the entry
+pub left_memory : (task : Task) (s : Story) (a b c : Pass) (h : Hold) (os : List ℕ) (entries : List JournalEntry) → h.flips.items ≢ [] → IsStoryOf task s → Turned s a h [] → length os < 64 → know b ≡ with_journal (waits (know a) os) entries → ((q : ℕ) → q ≢ 0 → slot b q ≡ slot a q)
+    → know c ≡ without_journal (know b) → Puts b c 0 none → Ended task s c h NoMemory
+left_memory task s a b c h os entries any of t count won slots left puts =
+    let old = t.going.try_now in
+    left_behind task s a b c h os entries NoMemory t won slots left puts record {
+      made = s.flips;
+      next = [];
+      some = λ e. any (sym (all_made s a h t) ∙ e);
+      first = sym (append-nil s.flips);
+      legal = replays_on task s a h (waited old os) t of (waited_note old os).note;
+      vertices = waited_vertices old os ∙ t.going.fresh.0;
+      journal = let j : (waited old os).journal ≡ length os = waited_journal old os t.going.fresh.1 (omega (arith, count)) in omega (arith, count, j);
+    }
 
 -- ---- the entry
 

@@ -1,12 +1,11 @@
 -- What the gate of a worker hears, try after try.
-use Rattle.std.proofs.Common.{◌≡◌, ℕ, ◌+◌, Bool, false, cond, List, [], ◌∷◌, ◌++◌, length, length-append, Result, Ok, Err, IfOk, IfErr, sym, ◌∙◌, ap, refl, arith}
+use Rattle.std.proofs.Common.{◌≡◌, ℕ, ◌+◌, Bool, false, cond, List, [], ◌∷◌, ◌++◌, length, length-append, Result, Ok, Err, IfOk, IfErr, inl, inr, sym, ◌∙◌, ap, refl, subst, arith}
 use Rattle.flip_rules.specs.Entries.{JournalEntry}
 use Rattle.board_rule.specs.Tries.{Try}
 use Rattle.board_rule.proofs.Items.{off}
 use Rattle.vertex_claims.specs.Passes.{know}
 use Rattle.vertex_claims.specs.declared.pass.Pass.{Pass}
 use Rattle.held_stars.specs.Gates.{Heard, Keeps, after_asked, fails, noted_in}
-use Rattle.held_stars.proofs.Gates.{keeps_both, keeps_more}
 use Rattle.held_stars.specs.Holding.{Story}
 use Rattle.held_stars.specs.declared.hold.Hold.{Hold}
 use Rattle.held_stars.specs.declared.point.Point.TheVariants.{Start, Journal}
@@ -15,27 +14,52 @@ use Rattle.round_rules.specs.Tasks.{Task}
 use Rattle.round_rules.specs.declared.tried.Tried.{Tried}
 use Rattle.round_rules.specs.declared.tried.Tried.TheVariants.{Committed, Busy, Nothing, Blocked, Declined, Quit, NoMemory}
 use Rattle.spec_worker.specs.Trying.{Ended, Entered, Why}
-use Rattle.spec_worker.specs.Hearing.{Concludes, TryHeard, RunHeard, after_made, commits, flips_in, is_commit, is_quit}
+use Rattle.spec_worker.specs.Hearing.{AtMostOnce, Concludes, TryHeard, RunHeard, after_made, commits, flips_in, is_commit, is_quit}
 use Rattle.spec_worker.specs.declared.turning.Order.{Order}
 use Rattle.spec_worker.proofs.BegunTries.{Begun}
 use Rattle.spec_worker.proofs.WholeRuns.{quits_snoc}
 
 -- ---- the end of a try
 
--- it ended without an entry
+-- it ended without an entry, before the journal
 pub ends_here : (a : Tried) (p p2 f f2 : ℕ) (h g : Heard) → Keeps (is_quit a) p p2 f f2 h g → Concludes (Err a) p p2 f f2 h g
-ends_here a p p2 f f2 h g k = record { keeps = k; fetched = λ yes. off yes }
+ends_here a p p2 f f2 h g k = record { ended = k.ended; started = k.started; claimed = k.claimed; flipped = k.flipped; once = inl k.fetched; fetched = λ yes. off yes; committed = k.committed }
 
--- its flips were committed, after the gate was asked at the journal
-pub commits_here : (n p p2 f f2 : ℕ) (h g : Heard) → Keeps false p p2 f f2 h g → g ≡ after_asked Journal false h → Concludes (Ok n) p p2 f f2 h g
-commits_here n p p2 f f2 h g k e = let fetches = ap (λ (t : Heard). t.fetched) e in record { keeps = k; fetched = λ _. omega (arith, fetches) }
+-- it was asked at the journal
+pub journal_here : (made : Result ℕ Tried) (p p2 f : ℕ) → p2 ≡ p → (h g : Heard) → g ≡ after_asked Journal (fails is_quit made) h → Concludes made p p2 f f h g
+journal_here made p p2 f noted h g e =
+    let claims = ap (λ (k : Heard). k.claimed) e in
+    let flips = ap (λ (k : Heard). k.flipped) e in
+    let fetches = ap (λ (k : Heard). k.fetched) e in
+    record {
+      ended = ap (λ (k : Heard). k.ended) e;
+      started = ap (λ (k : Heard). k.started) e;
+      claimed = omega (arith, noted, claims);
+      flipped = omega (arith, flips);
+      once = inr fetches;
+      fetched = λ _. fetches;
+      committed = ap (λ (k : Heard). k.committed) e;
+    }
 
 -- its end after its turns
 pub concludes_then : (made : Result ℕ Tried) (p p2 p3 f f2 f3 : ℕ) (h k g : Heard) → Keeps false p (p2 + 1) f f2 h k → Concludes made p2 p3 f2 f3 k g → Concludes made p (p3 + 1) f f3 h g
-concludes_then made p p2 p3 f f2 f3 h k g a b = record {
-  keeps = keeps_both (fails is_quit made) p (p2 + 1) (p3 + 1) f f2 f3 h k g a (keeps_more (fails is_quit made) p2 p3 f2 f3 k g b.keeps);
-  fetched = λ yes. let before = a.fetched in let after = b.fetched yes in omega (arith, before, after);
-}
+concludes_then made p p2 p3 f f2 f3 h k g a b =
+    let none : k.ended ≡ h.ended + 0 = a.ended in
+    let ended = b.ended in
+    let first = a.claimed in
+    let claims = b.claimed in
+    let turns = a.flipped in
+    let flips = b.flipped in
+    let unasked = a.fetched in
+    record {
+      ended = omega (arith, none, ended);
+      started = b.started ∙ a.started;
+      claimed = omega (arith, first, claims);
+      flipped = omega (arith, turns, flips);
+      once = subst (λ (n : ℕ). AtMostOnce n g.fetched) unasked b.once;
+      fetched = λ yes. let asked = b.fetched yes in omega (arith, unasked, asked);
+      committed = b.committed ∙ a.committed;
+    }
 
 -- ---- one try
 
@@ -62,58 +86,59 @@ pub tried_heard : (task : Task) (o : Order) (a b c d : Pass) (h n : Hold) (dim r
     → (l p q r : ℕ) → p ≡ l + 1 → r ≡ q → (x k y : Heard) → Concludes made p (q + 1) (length h.flips.items) (length n.flips.items) x k → y ≡ after_made made k
     → TryHeard 0 answer l r (flips_in (know a).mine) (flips_in (know d).mine) x y
 tried_heard task o a b c d h n dim round g mine empty (Ok seq) answer entered ended is l p q r first last x k y concludes e =
-    let keeps = concludes.keeps in
     let starts = ap (λ (t : Heard). t.started) e in
     let claims = ap (λ (t : Heard). t.claimed) e in
     let flips = ap (λ (t : Heard). t.flipped) e in
     let fetches = ap (λ (t : Heard). t.fetched) e in
     let told = ap (λ (t : Heard). t.committed) e in
-    let begun = keeps.started in
-    let claimed = keeps.claimed in
-    let made = keeps.flipped in
+    let begun = concludes.started in
+    let claimed = concludes.claimed in
+    let made = concludes.flipped in
     let fetched = concludes.fetched refl in
-    let same = keeps.committed in
+    let same = concludes.committed in
     let zero_then = ap length empty in
     let all_now = ap length entered.flips in
     let entries = ap flips_in (mine ∙ entered.row.entry) ∙ flips_snoc g.story.mine _ in
     let were = ap flips_in g.mine in
     let one = ap (λ (t : Tried). commits (t ∷ [])) is.0 in
     let ended = ap (λ (t : Heard). t.ended) e in
-    let kept : k.ended ≡ x.ended + 0 = keeps.ended in
+    let kept : k.ended ≡ x.ended + 0 = concludes.ended in
     let none : cond {A = ℕ} (is_quit answer) 1 0 ≡ 0 = ap (λ (t : Tried). cond {A = ℕ} (is_quit t) 1 0) is.0 in
     record {
       ended = omega (arith, ended, kept, none);
       started = omega (arith, starts, begun);
       claimed = omega (arith, claims, claimed, first, last);
       flipped = λ _. omega (arith, flips, made, zero_then, all_now, entries, were);
+      once = subst (λ (m : ℕ). AtMostOnce x.fetched m) (sym fetches) concludes.once;
       fetched = λ _. omega (arith, fetches, fetched);
       committed = omega (arith, told, same, one);
     }
 tried_heard task o a b c d h n dim round g mine empty (Err why) answer entered ended is l p q r first last x k y concludes e =
-    let keeps = concludes.keeps in
     let starts = ap (λ (t : Heard). t.started) e in
     let claims = ap (λ (t : Heard). t.claimed) e in
+    let fetches = ap (λ (t : Heard). t.fetched) e in
     let told = ap (λ (t : Heard). t.committed) e in
-    let begun = keeps.started in
-    let claimed = keeps.claimed in
-    let same = keeps.committed in
+    let begun = concludes.started in
+    let claimed = concludes.claimed in
+    let same = concludes.committed in
     let no : is_commit answer ≡ false = ap is_commit is.1 ∙ no_entry task g.story ended.try_now why ended.reason in
     let zero_more : commits (answer ∷ []) ≡ 0 = ap (λ (t : Bool). cond t 1 0 + 0) no in
     let ended = ap (λ (t : Heard). t.ended) e in
-    let kept = keeps.ended in
+    let kept = concludes.ended in
     let quit = ap (λ (t : Tried). cond {A = ℕ} (is_quit t) 1 0) is.1 in
     record {
       ended = omega (arith, ended, kept, quit);
       started = omega (arith, starts, begun);
       claimed = omega (arith, claims, claimed, first, last);
       flipped = λ yes. off (sym no ∙ yes);
+      once = subst (λ (m : ℕ). AtMostOnce x.fetched m) (sym fetches) concludes.once;
       fetched = λ yes. off (sym no ∙ yes);
       committed = omega (arith, told, same, zero_more);
     }
 
 -- another worker had its place
 pub busy_heard : (p o l m n k : ℕ) → m ≡ 0 + l → (h : Heard) → TryHeard 0 (Busy p o) l m n k h h
-busy_heard p o l m n k e h = record { ended = omega arith; started = omega arith; claimed = omega (arith, e); flipped = λ yes. off yes; fetched = λ yes. off yes; committed = omega arith }
+busy_heard p o l m n k e h = record { ended = omega arith; started = omega arith; claimed = omega (arith, e); flipped = λ yes. off yes; once = inl refl; fetched = λ yes. off yes; committed = omega arith }
 
 -- the gate ended it at its start
 pub quit_heard : (a : Tried) (l m n : ℕ) → a ≡ Quit → (h g : Heard) → g ≡ after_asked Start (is_quit a) h → TryHeard 1 a l l m n h g
@@ -126,6 +151,7 @@ quit_heard a l m n is h g e =
       started = ap (λ (t : Heard). t.started) e;
       claimed = omega (arith, claims);
       flipped = λ yes. off (sym (ap is_commit is) ∙ yes);
+      once = inl (ap (λ (t : Heard). t.fetched) e);
       fetched = λ yes. off (sym (ap is_commit is) ∙ yes);
       committed = omega (arith, told, zero_more);
     }
@@ -147,6 +173,7 @@ begun_heard a l m n o h k g e rest =
       started = omega (arith, starts, no_more);
       claimed = omega (arith, claims, more);
       flipped = λ yes. let made = rest.flipped yes in omega (arith, flips, made);
+      once = subst (λ (x : ℕ). AtMostOnce x g.fetched) fetches rest.once;
       fetched = λ yes. let won = rest.fetched yes in omega (arith, fetches, won);
       committed = omega (arith, told, all_told);
     }
@@ -158,6 +185,7 @@ kept_heard a l m n o p q d e h g t = record {
   started = t.started;
   claimed = (let claimed = t.claimed in omega (arith, claimed, d));
   flipped = λ yes. let made = t.flipped yes in omega (arith, made, e);
+  once = t.once;
   fetched = t.fetched;
   committed = t.committed;
 }

@@ -1,5 +1,5 @@
 -- A try before and after one turn.
-use Rattle.std.proofs.Common.{◌≡◌, ℕ, ◌+◌, ◌*◌, ◌≤◌, Bool, true, false, List, [], ◌∷◌, ◌++◌, length, append_assoc, length-append, Ok, Err, if◌then◌else◌, sym, ◌∙◌, ap, refl, subst, arith}
+use Rattle.std.proofs.Common.{◌≡◌, ◌≢◌, ℕ, ◌+◌, ◌*◌, ◌≤◌, Bool, true, false, List, [], ◌∷◌, ◌++◌, length, append_assoc, length-append, Result, Ok, Err, if◌then◌else◌, sym, ◌∙◌, ap, refl, subst, arith}
 use mathlib.Core.Option.{some}
 use Rattle.complex_core.specs.Labels.{has, union}
 use Rattle.complex_core.specs.Spaces.{Space, is_held}
@@ -11,6 +11,7 @@ use Rattle.flip_rules.specs.declared.flip.FlipFault.{FlipFault}
 use Rattle.flip_rules.specs.declared.flip.FlipFault.TheVariants as fault_of
 use Rattle.flip_rules.specs.declared.flip.Illegal.{Illegal}
 use Rattle.flip_rules.specs.declared.flip.Illegal.TheVariants.{BIsFace}
+use Rattle.flip_rules.proofs.Replays.{replay_then}
 use Rattle.star_laws.specs.Stars.{flips_touch, LabelsPass}
 use Rattle.star_laws.proofs.FlipStars.{star_flipped}
 use Rattle.stars.specs.StarViews.{VertexStar}
@@ -28,13 +29,13 @@ use Rattle.held_stars.specs.Holding.{Story, Noting, Going, Made, Restorable, Ref
 use Rattle.held_stars.specs.declared.hold.Hold.{Hold}
 use Rattle.held_stars.specs.declared.stopped.Stopped.{Stopped}
 use Rattle.held_stars.specs.declared.stopped.Stopped.TheVariants as stopped
-use Rattle.held_stars.proofs.MadeFlips.{union_touches, made_restorable}
+use Rattle.held_stars.proofs.MadeFlips.{union_touches, touch_one, touch_snoc, made_restorable}
 use Rattle.round_rules.specs.Own.{ReplaysOn}
 use Rattle.round_rules.specs.Tasks.{Task}
 use Rattle.round_rules.specs.declared.tried.Tried.{Tried}
 use Rattle.round_rules.specs.declared.tried.Tried.TheVariants.{Busy, Blocked, Quit, NoMemory}
 use Rattle.spec_worker.specs.Trying.{Turned, IsNext, Ended}
-use Rattle.spec_worker.proofs.Within.{touched_one}
+use Rattle.spec_worker.proofs.Within.{either, touched_one}
 
 -- ---- labels of flips
 
@@ -139,16 +140,6 @@ ended_busy task s pass h p w q o reason is at by e =
       restorable = e.restorable;
     }
 
--- there wasn't enough memory
-pub ended_memory : (task : Task) (s : Story) (f : Flip) (next : List Flip) (a b : Pass) (h n : Hold) → Claimed s f next a h → know b ≡ know a → Restorable b n → Ended task s b n NoMemory
-ended_memory task s f next a b h n t known r = record {
-  try_now = t.going.try_now;
-  noting = subst (λ (v : Hand). Noting s v t.going.try_now) (sym known) t.going.noting;
-  mine = ap (λ (v : Hand). v.mine) known ∙ t.going.mine;
-  reason = tt;
-  restorable = r;
-}
-
 -- the noted stars are those of the complex that the pass knows, and the flips so far replay on it
 replays_on : (s : Story) (dim : ℕ) (pass : Pass) (h : Hold) (now : Space) → (g : Going s (know pass)) → Made pass h now → s.dim ≡ dim → ReplaysOn dim g.try_now.note h.flips.items
 replays_on s dim pass h now g m is = record {
@@ -190,3 +181,44 @@ ended_blocked task s f next a b h n e fault t is known illegal refused r = let w
   };
   restorable = r;
 }
+
+not_made : (fs : List Flip) (f : Flip) → fs ++ f ∷ [] ≢ []
+not_made fs f e = let n = ap length e in let m = length-append fs (f ∷ []) in absurd (omega (arith, n, m))
+
+-- a flip that was not made
+abbrev failed : FlipFault → Result (Unit {0}) FlipFault
+failed fault = Err fault
+
+-- a fault that is want of memory comes only where no rule is broken
+none_broken : (w : Result (Unit {0}) Illegal) (fault : FlipFault) → fault ≡ fault_of.Memory → ((e : Illegal) → w ≡ Err e → failed fault ≡ Err (fault_of.Illegal e)) → w ≡ Ok tt
+none_broken (Ok u) fault is told = refl
+none_broken (Err e) fault is told = let c = told e refl in cc
+
+-- there wasn't enough memory for the flip, which is legal
+pub ended_memory : (task : Task) (s : Story) (f : Flip) (next : List Flip) (a b : Pass) (h n : Hold) (fault : FlipFault) → (t : Claimed s f next a h) → s.dim ≡ task.dim → know b ≡ know a → fault ≡ fault_of.Memory
+    → ((e : Illegal) → why t.now f.a f.b ≡ Err e → failed fault ≡ Err (fault_of.Illegal e)) → Restorable b n → Ended task s b n NoMemory
+unfolding replays_on
+ended_memory task s f next a b h n fault t is known want told back =
+    let before = replays_on s task.dim a h t.now t.going t.made is in
+    record {
+      try_now = t.going.try_now;
+      noting = subst (λ (v : Hand). Noting s v t.going.try_now) (sym known) t.going.noting;
+      mine = ap (λ (v : Hand). v.mine) known ∙ t.going.mine;
+      reason = record {
+        made = h.flips.items ++ f ∷ [];
+        next = next;
+        some = not_made h.flips.items f;
+        first = t.whole ∙ sym (append_assoc h.flips.items (f ∷ []) next);
+        legal = record {
+          complex = before.complex;
+          end = flipped t.now f.a f.b;
+          stars = before.stars;
+          labels = λ q u. either (flips_touch q h.flips.items) (flip_touches q f) (has_item t.going.try_now.note q ≡ true) (sym (touch_snoc q h.flips.items f) ∙ u) (before.labels q)
+              (λ v. ap (λ (l : List (ℕ × HomeOf)). has_item l q) t.going.note ∙ t.labels q (touch_one q f v));
+          replays = replay_then (know a).seen t.now h.flips.items f t.made.replays (none_broken (why t.now f.a f.b) fault want told);
+        };
+        vertices = t.going.fresh.0;
+        journal = (let z : t.going.try_now.journal ≡ 0 = t.going.fresh.1 in omega (arith, z));
+      };
+      restorable = back;
+    }

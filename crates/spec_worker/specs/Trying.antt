@@ -12,7 +12,7 @@ use Rattle.vertex_claims.specs.Passes.{know}
 use Rattle.vertex_claims.specs.declared.pass.Pass.{Pass}
 use Rattle.held_stars.specs.Holding.{Story, Noting, Going, Made, Restorable, Settles}
 use Rattle.held_stars.specs.declared.hold.Hold.{Hold}
-use Rattle.round_rules.specs.Own.{Unrefused, BusyOwn, BlockedOwn, DeclinedOwn, CommittedOwn}
+use Rattle.round_rules.specs.Own.{Unrefused, BusyOwn, BlockedOwn, DeclinedOwn, CommittedOwn, WantedOwn}
 use Rattle.round_rules.specs.Tasks.{Task, place_of, turns_of}
 use Rattle.round_rules.specs.declared.tried.Tried.{Tried}
 use Rattle.spec_worker.specs.Workers.{ArePlaces}
@@ -66,7 +66,7 @@ Why task s t Nothing = (s.flips ≡ []) × Unrefused t
 Why task s t (Blocked f) = BlockedOwn task t f s.flips
 Why task s t (Declined c) = DeclinedOwn task t c s.flips
 Why task s t Quit = ⊤
-Why task s t NoMemory = ⊤
+Why task s t NoMemory = WantedOwn task t s.flips
 
 -- it ended without an entry, and the stars that it holds can be put back as they came
 pub record Ended (task : Task) (s : Story) (pass : Pass) (h : Hold) (a : Tried) : Type 0 where

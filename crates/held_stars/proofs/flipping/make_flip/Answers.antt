@@ -41,6 +41,9 @@ give_back-requires-clause-held c = λ q h.
 pub returns-in-Ok-clause-legal : goal.returns-in-Ok-clause-legal
 returns-in-Ok-clause-legal c = λ k m. c.in-Ok.ensures.legal k (near_stars_of c.args.pass.now c.args.hold.now k c.lend.new.near.items c.labels.result.now c.args.pass.now.sees m c.lend.ensures.vertices (face_same c.in-Some.labels c.labels.result.now (sym c.labels.ensures.labels) c.labels.ensures.face) (c.lend.ensures.stars k m.hosts))
 
+pub returns-in-Ok-clause-told : goal.returns-in-Ok-clause-told
+returns-in-Ok-clause-told c = λ k e m. c.in-Ok.ensures.told k e (near_stars_of c.args.pass.now c.args.hold.now k c.lend.new.near.items c.labels.result.now c.args.pass.now.sees m c.lend.ensures.vertices (face_same c.in-Some.labels c.labels.result.now (sym c.labels.ensures.labels) c.labels.ensures.face) (c.lend.ensures.stars k m.hosts))
+
 pub returns-in-Ok-clause-made : goal.returns-in-Ok-clause-made
 returns-in-Ok-clause-made c = λ k m.
     let f = c.args.flip.now in
@@ -71,6 +74,9 @@ returns-in-Ok-clause-room c =
 
 pub returns-in-Err-clause-why : goal.returns-in-Err-clause-why
 returns-in-Err-clause-why c = λ k m. c.in-Err.ensures.why k (near_stars_of c.args.pass.now c.args.hold.now k c.lend.new.near.items c.labels.result.now c.args.pass.now.sees m c.lend.ensures.vertices (face_same c.in-Some.labels c.labels.result.now (sym c.labels.ensures.labels) c.labels.ensures.face) (c.lend.ensures.stars k m.hosts))
+
+pub returns-in-Err-clause-told : goal.returns-in-Err-clause-told
+returns-in-Err-clause-told c = λ k e m. c.in-Err.ensures.told k e (near_stars_of c.args.pass.now c.args.hold.now k c.lend.new.near.items c.labels.result.now c.args.pass.now.sees m c.lend.ensures.vertices (face_same c.in-Some.labels c.labels.result.now (sym c.labels.ensures.labels) c.labels.ensures.face) (c.lend.ensures.stars k m.hosts))
 
 pub returns-in-Err-clause-restorable : goal.returns-in-Err-clause-restorable
 returns-in-Err-clause-restorable c = λ k m.

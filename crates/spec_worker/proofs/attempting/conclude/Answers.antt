@@ -2,12 +2,12 @@ use Rattle.std.proofs.Common.{◌∷◌, ◌∙◌, w32, rules, sym, subst, refl
 use lib.IntN.{ℤ}
 use mir.Val.{SFits}
 use Rattle.std.proofs.lemmas.Int.{to_z-of_z}
-use Rattle.spec_worker.proofs.Hearing.{ends_here, commits_here}
-use Rattle.held_stars.proofs.Gates.{follows_self, follows_then, keeps_self, keeps_journal, same_noted, noted_waiting}
+use Rattle.spec_worker.proofs.Hearing.{ends_here, journal_here}
+use Rattle.held_stars.proofs.Gates.{follows_self, follows_then, keeps_self, same_noted, noted_waiting}
 use Rattle.vertex_claims.specs.Passes.{round_of, know, entry_of}
 use Rattle.round_rules.specs.declared.tried.Tried.TheVariants.{Declined}
 use Rattle.spec_worker.specs.Trying.{Ended}
-use Rattle.spec_worker.proofs.ConcludedTries.{no_flips, some_flips, permitted, above, none_made, declined, refused, left_behind, left_quit, may_claim, labels_held, legal_now, entered, told_lost, told_won, told_left, told_entered}
+use Rattle.spec_worker.proofs.ConcludedTries.{no_flips, some_flips, permitted, above, none_made, declined, refused, left_quit, left_memory, may_claim, labels_held, legal_now, entered, told_lost, told_won, told_left, told_entered}
 use Rattle.spec_worker.proofs.attempting.conclude.Goals as goal
 
 pub returns-then-is_empty-clause-ends : goal.returns-then-is_empty-clause-ends
@@ -42,7 +42,9 @@ returns-then-is_err-clause-ends g c = λ task s told of turned.
     let won = c.in_default-fetch.ensures.won in
     let room = c.journal_room.ensures in
     let left = c.leave_journal-then-is_err.ensures in
-    left_behind task s c.args.pass.now c.journal_room.new.self c.leave_journal-then-is_err.new.self c.args.hold.now won.0 won.1.entries _ turned (room.known ∙ won.3) (λ q ne. room.slots q ne ∙ won.4 q ne) left.known left.slots tt
+    let flips = c.args.hold.now.flips in
+    left_memory task s c.args.pass.now c.journal_room.new.self c.leave_journal-then-is_err.new.self c.args.hold.now won.0 won.1.entries (some_flips flips.items flips.len c.is_empty.result flips.ok.0 c.is_empty.ensures c.if-is_empty.false) of turned won.2 (room.known ∙ won.3)
+    (λ q ne. room.slots q ne ∙ won.4 q ne) left.known left.slots
 
 pub commit-requires-clause-claiming : goal.commit-requires-clause-claiming
 commit-requires-clause-claiming g c =
@@ -105,14 +107,14 @@ returns-in-Err-fetch-clause-heard g c =
 pub returns-in-Err-ask-clause-heard : goal.returns-in-Err-ask-clause-heard
 returns-in-Err-ask-clause-heard g c =
     let won = c.in_default-fetch.ensures.won in
-    follows_then _ _ _ _ c.in-Err-ask.ensures.heard (λ h g e. ends_here _ _ _ _ _ h g (keeps_journal _ _ _ _ (same_noted _ _ c.leave_journal.ensures.known ∙ (same_noted _ _ won.3 ∙ noted_waiting (know c.args.pass.now) won.0)) h g e))
+    follows_then _ _ _ _ c.in-Err-ask.ensures.heard (λ h g e. journal_here _ _ _ _ (same_noted _ _ c.leave_journal.ensures.known ∙ (same_noted _ _ won.3 ∙ noted_waiting (know c.args.pass.now) won.0)) h g e)
 
 pub returns-then-is_err-clause-heard : goal.returns-then-is_err-clause-heard
 returns-then-is_err-clause-heard g c =
     let won = c.in_default-fetch.ensures.won in
-    follows_then _ _ _ _ c.in_default-ask.ensures.heard (λ h g e. ends_here _ _ _ _ _ h g (keeps_journal _ _ _ _ (same_noted _ _ c.leave_journal-then-is_err.ensures.known ∙ (same_noted _ _ (c.journal_room.ensures.known ∙ won.3) ∙ noted_waiting (know c.args.pass.now) won.0)) h g e))
+    follows_then _ _ _ _ c.in_default-ask.ensures.heard (λ h g e. journal_here _ _ _ _ (same_noted _ _ c.leave_journal-then-is_err.ensures.known ∙ (same_noted _ _ (c.journal_room.ensures.known ∙ won.3) ∙ noted_waiting (know c.args.pass.now) won.0)) h g e)
 
 pub returns-clause-heard : goal.returns-clause-heard
 returns-clause-heard g c =
     let won = c.in_default-fetch.ensures.won in
-    follows_then _ _ _ _ c.in_default-ask.ensures.heard (λ h g e. commits_here _ _ _ _ _ h g (keeps_journal _ _ _ _ (same_noted _ _ c.commit.ensures.known.1 ∙ (same_noted _ _ (c.journal_room.ensures.known ∙ won.3) ∙ noted_waiting (know c.args.pass.now) won.0)) h g e) e)
+    follows_then _ _ _ _ c.in_default-ask.ensures.heard (λ h g e. journal_here _ _ _ _ (same_noted _ _ c.commit.ensures.known.1 ∙ (same_noted _ _ (c.journal_room.ensures.known ∙ won.3) ∙ noted_waiting (know c.args.pass.now) won.0)) h g e)

@@ -78,7 +78,7 @@ returns-in-Err-Memory-clause-ends g c = λ task s next is n.
     let e = c.in-Ok.ensures in
     let m = c.in-Err-Memory.ensures in
     let t = claimed s c.args.dim c.args.pass.now c.claim_labels.new.pass c.args.hold.now c.claim_labels.new.hold c.args.flip.now next c.labels.result.now n (c.labels.ensures.labels ∙ c.in-Some.ensures.1) c.in-Some.ensures.0 e.hold.0 e.hold.3 e.held (e.going s) in
-    ended_memory task s c.args.flip.now next c.claim_labels.new.pass c.make_flip.new.pass c.claim_labels.new.hold c.make_flip.new.hold t m.known.0 (m.restorable t.now t.made)
+    ended_memory task s c.args.flip.now next c.claim_labels.new.pass c.make_flip.new.pass c.claim_labels.new.hold c.make_flip.new.hold _ t (n.dim_is ∙ sym is) m.known.0 c.in-Err-Memory.field-0-is (λ x broken. m.told t.now x t.made broken) (m.restorable t.now t.made)
 
 pub returns-in-Err-Busy-clause-heard : goal.returns-in-Err-Busy-clause-heard
 returns-in-Err-Busy-clause-heard g c = follows_then _ _ _ _ c.in-Err-Busy.ensures.heard (keeps_as _ _ _ _ _ _ (ap is_stop c.in-Err-Busy.field-0-is))
