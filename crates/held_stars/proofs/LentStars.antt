@@ -20,7 +20,7 @@ use Rattle.board_rule.specs.declared.view.Hand.{Hand}
 use Rattle.board_rule.proofs.Items.{tested, off, some_of}
 use Rattle.vertex_claims.specs.Passes.{IsSame, know, slot, spare, Puts}
 use Rattle.vertex_claims.specs.declared.pass.Pass.{Pass}
-use Rattle.held_stars.specs.Holding.{Lends, Hosts, with_copies}
+use Rattle.held_stars.specs.Holding.{Lends, Hosts, Emptied, with_copies}
 
 -- ---- rising labels
 
@@ -141,6 +141,47 @@ lending_more a b c front near p out star l same known spares outs puts held fres
     last_true : (a b : Bool) → b ≡ true → (a || b) ≡ true
     last_true true b h = refl
     last_true false b h = h
+
+    first_false : (a b : Bool) → (a || b) ≡ false → a ≡ false
+    first_false true b h = h
+    first_false false b h = refl
+
+pub emptied_none : (d : ℕ) (a : Pass) → Emptied d a a []
+emptied_none d a q = (λ h x at. off h, λ _. refl)
+
+-- one more slot gets an empty star
+pub emptied_more : (d : ℕ) (a b c : Pass) (front : List ℕ) (p : ℕ) (star : VertexStar) (was : HomeOf) → star ≡ record { vertex = p; dim = d; rows = [] } → Emptied d a b front → has front p ≡ false → slot b p ≡ some (Home was)
+    → ((x : HomeOf) → slot b p ≡ some (Home x) → Puts b c p (some (Home (home star x.version)))) → Emptied d a c (front ++ p ∷ [])
+emptied_more d a b c front p star was is old fresh at puts q = tested p q (λ t. slot c q ≡ cond t (some (Home (home star was.version))) (slot b q) → Now)
+    (λ e put. (
+      λ h x before.
+          let one : some (Home was) ≡ some (Home x) = sym at ∙ ((old p).1 fresh ∙ (ap (slot a) e ∙ before)) in
+          let same : was ≡ x = cc in
+          put ∙ (λ i. some (Home (home ((is ∙ ap (λ (n : ℕ). record { vertex = n; dim = d; rows = [] }) e) i) (same i).version))),
+      λ f. off (sym f ∙ (has_snoc front p q ∙ last_true (has front q) (nat_eq p q) (ap (λ (n : ℕ). nat_eq p n) (sym e) ∙ equal p))),
+    ))
+    (λ ne put. (
+      λ h x before. put ∙ (old q).0 (without_last (has front q) (nat_eq p q) (apart p q ne) (sym (has_snoc front p q) ∙ h)) x before,
+      λ f. put ∙ (old q).1 (first_false (has front q) (nat_eq p q) (sym (has_snoc front p q) ∙ f)),
+    ))
+    (puts was at q)
+  where
+    Now : Type 0
+    Now = (has (front ++ p ∷ []) q ≡ true → (x : HomeOf) → slot a q ≡ some (Home x) → slot c q ≡ some (Home (home (record { vertex = q; dim = d; rows = [] }) x.version))) × (has (front ++ p ∷ []) q ≡ false → slot c q ≡ slot a q)
+
+    equal : (n : ℕ) → nat_eq n n ≡ true
+    equal n = grind (arith, nat_tests)
+
+    apart : (m n : ℕ) → m ≢ n → nat_eq m n ≡ false
+    apart m n ne = grind (arith, nat_tests)
+
+    last_true : (a b : Bool) → b ≡ true → (a || b) ≡ true
+    last_true true b h = refl
+    last_true false b h = h
+
+    without_last : (a b : Bool) → b ≡ false → (a || b) ≡ true → a ≡ true
+    without_last true b h t = refl
+    without_last false b h t = off (sym h ∙ t)
 
     first_false : (a b : Bool) → (a || b) ≡ false → a ≡ false
     first_false true b h = h

@@ -1,5 +1,5 @@
 -- What a gate hears of the tries of its worker.
-use Rattle.std.specs.Prelude.{◌≡◌, ℕ, ◌+◌, ◌≤◌, Bool, true, false, cond, List, [], ◌∷◌, length, Option, Some, IfSome, Result, Ok, Err}
+use Rattle.std.specs.Prelude.{◌≡◌, ℕ, ◌+◌, Bool, true, false, cond, List, [], ◌∷◌, length, Option, Some, IfSome, Result, Ok, Err}
 use Rattle.board_rule.specs.Tries.{Try}
 use Rattle.held_stars.specs.declared.point.Point.{Point}
 use Rattle.held_stars.specs.declared.point.Point.TheVariants.{Start, Claimed, Flipped, Journal}

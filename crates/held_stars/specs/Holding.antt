@@ -28,6 +28,10 @@ use Rattle.held_stars.specs.declared.hold.Hold.{Hold}
 abbrev pub Lends : Pass → Space → List ℕ → Type 0
 Lends pass k lent = (q : ℕ) (x : HomeOf) → item (know pass).items q ≡ some x → (s : VertexStar) × (slot pass q ≡ some (Home (home s x.version))) × (has lent q ≡ false → s ≡ star_in k q)
 
+-- the slots of these places have stars without a facet, of this dimension and with the versions that were there; the others are as they were
+abbrev pub Emptied : ℕ → Pass → Pass → List ℕ → Type 0
+Emptied d a b lent = (q : ℕ) → (has lent q ≡ true → (x : HomeOf) → slot a q ≡ some (Home x) → slot b q ≡ some (Home (home (record { vertex = q; dim = d; rows = [] }) x.version))) × (has lent q ≡ false → slot b q ≡ slot a q)
+
 -- each slot has its version, and the star of its place in this complex
 abbrev pub Hosts : Pass → Space → Type 0
 Hosts pass k = (q : ℕ) (x : HomeOf) → item (know pass).items q ≡ some x → slot pass q ≡ some (Home (home (star_in k q) x.version))

@@ -10,7 +10,7 @@ ghost use Rattle.board_rule.specs.Items.{has_item};
 ghost use Rattle.board_rule.specs.Views.{home};
 ghost use Rattle.board_rule.specs.declared.data.Home.{Home as HomeOf};
 ghost use Rattle.vertex_claims.specs.Passes.{IsOf, IsSame, know, slot, spare, Puts};
-ghost use Rattle.held_stars.specs.Holding.{Hosts, Lends, Copies, with_copies};
+ghost use Rattle.held_stars.specs.Holding.{Hosts, Lends, Emptied, Copies, with_copies};
 
 use board_rule::{Home, Slot};
 use stars::Star;
@@ -31,8 +31,8 @@ pub(crate) fn swap_star(board: &Board, pass: &mut Pass, place: u16, star: Star) 
     old
 }
 
-/// Takes the stars of these labels out, in order, and leaves empty ones in their slots. It takes no
-/// memory.
+/// Takes the stars of these labels out, in order, and leaves empty ones of a dimension in their slots.
+/// It takes no memory.
 pub fn lend(
     board: &Board,
     pass: &mut Pass,
@@ -50,6 +50,7 @@ pub fn lend(
     ensures same { IsSame pass.old pass.new }
     ensures known { (know pass.new ≡ know pass.old) × (spare pass.new ≡ spare pass.old) }
     ensures lent { (k : Space) → Hosts pass.old k → Lends pass.new k labels.now }
+    ensures emptied { Emptied dim pass.old pass.new labels.now }
     ensures stars { (k : Space) → Hosts pass.old k → AllByRecursion (IsStarOf k) near.new.items }
     ensures vertices { vertices near.new.items ≡ labels.now }
     ensures capacity { vec_capacity near.new ≡ vec_capacity near.old }
