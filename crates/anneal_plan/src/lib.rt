@@ -20,6 +20,3 @@ pub use places::{free, live};
 pub use plan::{Phase, Plan, PlanFault};
 pub use propose::{allowed, only_b_can_break, proposal, turns_follow};
 pub use words::{draw, draws_follow};
-
-#[cfg(test)]
-mod tests;

@@ -10,8 +10,6 @@ mod data;
 mod kept;
 mod laws;
 mod rule;
-#[cfg(test)]
-mod tests;
 mod view;
 
 pub use about::About;

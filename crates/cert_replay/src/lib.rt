@@ -9,8 +9,6 @@ mod facet_set;
 mod judge;
 mod laws;
 mod list;
-#[cfg(test)]
-mod tests;
 
 pub use judge::{Replayed, replay};
 pub use laws::answer_law;

@@ -23,6 +23,3 @@ pub use certificate::Certificate;
 pub use fault::CertFault;
 pub use read::read_certificate;
 pub use write::{write_certificate, written_certificate_is_read};
-
-#[cfg(test)]
-mod tests;

@@ -12,6 +12,3 @@ mod subset;
 pub use complex::{Complex, ComplexFault, put_all_in, take_all_out};
 pub use face::{Face, FaceFault};
 pub use map::{MapFault, VertexMap};
-
-#[cfg(test)]
-mod tests;

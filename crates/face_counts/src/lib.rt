@@ -6,6 +6,3 @@ mod laws;
 
 pub use count::{counts, euler, euler_from};
 pub use laws::{euler_law, faces_law};
-
-#[cfg(test)]
-mod tests;

@@ -14,6 +14,3 @@ pub use read::read_complex;
 pub use token::{Token, TokenKind, next_token};
 pub use word::{Word, next_word};
 pub use write::{write_complex, written_is_read};
-
-#[cfg(test)]
-mod tests;

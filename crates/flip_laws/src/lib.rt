@@ -9,6 +9,3 @@ mod obstacle;
 pub use difference::{Differ, cannot_equal, difference_law};
 pub use keeping::{flip_keeping, keeping_law};
 pub use obstacle::{Obstacle, cannot_reach, obstacle_law};
-
-#[cfg(test)]
-mod tests;

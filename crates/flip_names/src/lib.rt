@@ -9,8 +9,6 @@
 
 mod laws;
 mod names;
-#[cfg(test)]
-mod tests;
 
 pub use laws::{reducing_flips_stay, renaming_law};
 pub use names::{named_flip, named_flips};

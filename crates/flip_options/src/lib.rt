@@ -13,8 +13,6 @@ mod options;
 mod partner;
 mod refresh;
 mod table;
-#[cfg(test)]
-mod tests;
 
 pub use descended::Descended;
 pub use descent::descend;

@@ -12,8 +12,6 @@ mod journal;
 mod laws;
 mod link;
 mod sides;
-#[cfg(test)]
-mod tests;
 
 pub use boundary::is_simplex_boundary;
 pub use flip::{Flip, FlipFault, Illegal, apply, check, check_near, index, inverse};

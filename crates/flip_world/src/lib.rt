@@ -5,8 +5,6 @@ mod draft;
 mod event;
 mod judge;
 mod laws;
-#[cfg(test)]
-mod tests;
 mod world;
 
 pub use event::{Event, Refused, StepFault, Told};

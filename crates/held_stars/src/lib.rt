@@ -17,8 +17,6 @@ mod hold;
 mod lending;
 mod point;
 mod stopped;
-#[cfg(test)]
-mod tests;
 
 pub use claiming::claim_labels;
 pub use ending::{fetch, give_up, roll_back};

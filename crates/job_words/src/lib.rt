@@ -9,6 +9,3 @@ mod words;
 pub use job::{Job, JobName, UsageFault};
 pub use laws::{asked_exactly, name_alone, words_decide};
 pub use words::read_words;
-
-#[cfg(test)]
-mod tests;

@@ -14,6 +14,3 @@ pub use label::{Labels, label_of};
 pub use number::{Number, begins_with_digit, is_number, number_here, number_of};
 pub use word::{end_here, first_word, word_here};
 pub use write::{write_flip, write_number, written_flip_is_read};
-
-#[cfg(test)]
-mod tests;

@@ -7,6 +7,3 @@ mod orientation;
 mod search;
 
 pub use orientation::{Orientation, orient};
-
-#[cfg(test)]
-mod tests;

@@ -9,6 +9,3 @@ mod sides;
 pub use chains::{Apart, strong};
 pub use ridges::{Ridge, closed, thin};
 pub use sides::{all_sides, over};
-
-#[cfg(test)]
-mod tests;

@@ -26,8 +26,6 @@
 #![tactic(auto)]
 
 mod laws;
-#[cfg(test)]
-mod tests;
 mod tried;
 
 pub use laws::{round_ends, round_grows, round_law, try_commits};

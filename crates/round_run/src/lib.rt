@@ -14,10 +14,6 @@ mod report;
 mod round;
 mod running;
 mod search;
-#[cfg(test)]
-mod tests_round;
-#[cfg(test)]
-mod tests_search;
 
 pub use record::RoundRecord;
 pub use report::Report;

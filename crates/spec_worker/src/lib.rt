@@ -7,10 +7,6 @@
 #![tactic(auto)]
 
 mod attempting;
-#[cfg(test)]
-mod sample;
-#[cfg(test)]
-mod tests;
 mod turning;
 mod worker;
 

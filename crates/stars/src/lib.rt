@@ -16,8 +16,6 @@ mod over;
 mod rows;
 mod sides;
 mod star;
-#[cfg(test)]
-mod tests;
 
 pub use here::{flip_here, has_labels, local_check};
 pub use laws::flips_seen_here;

@@ -10,6 +10,3 @@ mod trace;
 pub use fault::TraceFault;
 pub use read::read_trace;
 pub use trace::Trace;
-
-#[cfg(test)]
-mod tests;

@@ -15,8 +15,6 @@ mod laying;
 mod mark;
 mod pass;
 mod sample;
-#[cfg(test)]
-mod tests;
 mod turning;
 
 pub use board::Board;

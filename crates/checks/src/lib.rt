@@ -1,0 +1,14 @@
+//! Tests of the calls that no job makes, and of what no contract says of the others: answers that were
+//! worked out elsewhere, and calls that take memory and must get it.
+#![tactic(auto)]
+
+#[cfg(test)]
+mod bytes;
+#[cfg(test)]
+mod flips;
+#[cfg(test)]
+mod samples;
+#[cfg(test)]
+mod texts;
+#[cfg(test)]
+mod words;
