@@ -1,8 +1,8 @@
 //! The plan of a search by simulated annealing: its numbers with their limits, the phases of a round,
 //! the random words and the places of its tries, and the bistellar flips that a try proposes.
 //!
-//! Flips and the strategy are those of Bjoerner and Lutz, "Simplicial manifolds, bistellar flips and a
-//! 16-vertex triangulation of the Poincare homology 3-sphere" (2000). The words are those of O'Neill,
+//! Flips and the strategy are those of Björner and Lutz, "Simplicial manifolds, bistellar flips and a
+//! 16-vertex triangulation of the Poincaré homology 3-sphere" (2000). The words are those of O'Neill,
 //! "PCG: a family of simple fast space-efficient statistically good algorithms for random number
 //! generation" (2014).
 #![tactic(auto)]

@@ -9,9 +9,6 @@ use job_run::{Status, run_job};
 use std::io;
 use std::process::ExitCode;
 
-#[cfg(test)]
-mod tests;
-
 // The words behind the program's name. A word that isn't UTF-8 makes a faulty command line, as no word at all does.
 fn words(rt: &HostRuntime) -> io::Result<Vec<String>> {
     let mut words = Vec::new(rt.alloc());

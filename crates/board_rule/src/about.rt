@@ -1,3 +1,4 @@
+// What a board is told once, when it is opened.
 use complex_core::Complex;
 use std::snapshot::Snapshot;
 

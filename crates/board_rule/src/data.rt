@@ -1,3 +1,4 @@
+// What the words and slots of a board hold: stars with their versions, and the open journal.
 ghost use Rattle.std.specs.Prelude.{◌≡◌, ◌+◌, ◌<◌, ◌^◌, ◌++◌, ◌∷◌, [], length, IfOk, OnOk, OnErr};
 
 use flip_rules::{Entry, Journal};

@@ -1,3 +1,4 @@
+// What main keeps of each pass.
 ghost use Rattle.std.specs.Prelude.{List, Bool};
 ghost use Rattle.std.specs.Borrow.{ftrue};
 ghost use Rattle.flip_rules.specs.Entries.{JournalEntry};

@@ -1,3 +1,4 @@
+// The rule of a board, and the steps that it allows.
 ghost use Rattle.board_rule.specs.Rule.{Ruled, opener};
 ghost use Rattle.board_rule.specs.Plays.{began, claimed, fetched, released, left, wrote, handed, given, gathered};
 ghost use Rattle.board_rule.specs.declared.view.View.TheVariants.{Spent};

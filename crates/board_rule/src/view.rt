@@ -1,3 +1,4 @@
+// What passes and main know of a board: ghost values, in proofs alone.
 ghost use Rattle.std.specs.Prelude.{ℕ, List, Bool};
 ghost use Rattle.std.specs.Borrow.{ftrue};
 ghost use Rattle.complex_core.specs.Spaces.{Space};

@@ -1,3 +1,4 @@
+// Pure simplicial complexes, as rising lists of facets.
 ghost use Rattle.std.specs.Prelude.{◌≡◌, [], ◌∷◌, ◌+◌, take, vec_len, vec_capacity, ◌-◌, ◌≤◌, ◌<◌, ◌++◌, IfOk, OnOk, OnErr, IfErr, length};
 ghost use Rattle.std.specs.List.{AllByRecursion, flat_map};
 ghost use Rattle.std.specs.List.Sorted.{IsStrictlySortedBy};

@@ -1,3 +1,4 @@
+// Faces: small sets of labels.
 ghost use Rattle.std.specs.Prelude.{◌≡◌, ℕ, ◌+◌, ◌≤◌, ◌<◌, ◌↔◌, List, [], ◌∷◌, ◌++◌, length, Some, IfSome, IfNone, IfOk, OnOk, IfErr, IsTrue, nat_eq, refl, ◌==◌, slice_index};
 ghost use Rattle.std.specs.Option.{SomeIff};
 ghost use Rattle.std.specs.Ordering.{nat_cmp};

@@ -1,3 +1,4 @@
+// The link of a face.
 ghost use Rattle.std.specs.Prelude.{◌≡◌, ◌≤◌, ◌<◌, IfOk, length, map, true};
 ghost use Rattle.std.specs.Option.{SomeIff};
 ghost use Rattle.complex_core.specs.Spaces.{is_face};

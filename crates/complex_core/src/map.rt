@@ -1,3 +1,4 @@
+// Maps of labels that take no two to the same one.
 ghost use Rattle.std.specs.Prelude.{◌≡◌, ℕ, ◌<◌, IfOk, OnOk, IfErr, MatchOption, length, map, true};
 ghost use Rattle.std.specs.Option.{SomeIff};
 ghost use Rattle.complex_core.specs.Rising.{rising};

@@ -1,3 +1,4 @@
+// The subsets of a face.
 ghost use Rattle.std.specs.Prelude.{◌≡◌, ℕ, List, IfOk, IsTrue, ◌↔◌};
 ghost use Rattle.std.specs.List.Sorted.{IsStrictlySortedBy};
 ghost use Rattle.complex_core.specs.Labels.{face_cmp};

@@ -1,3 +1,4 @@
+// The f-vector and the Euler characteristic.
 ghost use Rattle.std.specs.Prelude.{◌≡◌, ◌+◌, ◌<◌, ◌^◌, ℕ, List, IfOk, EachIndex, length, slice_index};
 ghost use Rattle.std.specs.List.{flat_map};
 ghost use Rattle.complex_core.specs.Labels.{face_cmp};

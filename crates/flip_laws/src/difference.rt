@@ -1,3 +1,4 @@
+// A fact that flips keep and in which two complexes differ.
 ghost use Rattle.std.specs.Prelude.{◌↔◌, IfOk, IfSome, IsTrue, MatchOption};
 ghost use Rattle.complex_core.specs.Spaces.{IsComplex};
 ghost use Rattle.orient_test.specs.Signs.{Orientable};

@@ -1,3 +1,4 @@
+// A flip that is made, with all that it keeps.
 ghost use Rattle.std.specs.Prelude.{◌≡◌, Ok, Err, OnOk, OnErr, IfErr};
 ghost use Rattle.flip_rules.specs.Flips.{why, flipped, FlipRefused, OfFaces};
 ghost use Rattle.flip_laws.specs.Keeping.{Keeps, ReplayKeeps};

@@ -1,3 +1,4 @@
+// The first fact of a sphere that a complex lacks.
 ghost use Rattle.std.specs.Prelude.{◌≡◌, IfOk, IfSome, MatchOption};
 ghost use lib.IntN.{pos, ◌+ℤ◌};
 ghost use Rattle.complex_core.specs.Spaces.{IsComplex};

@@ -1,3 +1,4 @@
+// A complex with its descent, on places with names.
 ghost use Rattle.std.specs.Prelude.{◌≡◌, ◌+◌, ◌≤◌, IfOk};
 ghost use Rattle.complex_core.specs.Maps.{greatest, used};
 ghost use Rattle.flip_options.specs.DescentViews.{IsDescentOf};

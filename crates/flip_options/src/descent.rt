@@ -1,3 +1,4 @@
+// The descent: the best flip, again and again.
 ghost use Rattle.std.specs.Prelude.{◌≡◌, IfOk, OnOk};
 ghost use Rattle.complex_core.specs.Maps.{greatest};
 ghost use Rattle.complex_core.specs.Spaces.{Space};

@@ -1,3 +1,4 @@
+// Few facets that have all those over a set: those of its smallest star.
 ghost use Rattle.std.specs.Prelude.{◌≡◌, ◌<◌, ◌≤◌, length, ℕ, MatchOption};
 ghost use Rattle.std.specs.List.Sorted.{IsStrictlySortedBy};
 ghost use Rattle.complex_core.specs.Labels.{face_cmp};

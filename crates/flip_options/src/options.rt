@@ -1,3 +1,4 @@
+// The candidates for a descent, kept up to date after each flip.
 ghost use Rattle.std.specs.Prelude.{◌≡◌, ◌∷◌, None, IsSome, IfSome, IfOk, OnOk, OnErr, MatchOption, slice_get};
 ghost use Rattle.complex_core.specs.Spaces.{Space};
 ghost use Rattle.flip_rules.specs.Flips.{flipped};

@@ -1,3 +1,4 @@
+// The flip that reduces, at one A.
 ghost use Rattle.complex_core.specs.Spaces.{Space};
 ghost use Rattle.stars.specs.StarViews.{IsStarListOf};
 ghost use Rattle.flip_options.specs.Tables.{Decides};

@@ -1,3 +1,4 @@
+// Looks again at the faces of which a flip may have changed the candidates.
 ghost use Rattle.std.specs.Prelude.{◌≡◌, ◌↔◌, ℕ, ◌+◌, ◌<◌, ◌≤◌, List, length, OnOk, IsTrue, Some, slice_get};
 ghost use Rattle.complex_core.specs.Spaces.{Space};
 ghost use Rattle.complex_core.specs.Subsets.{IsSubset};

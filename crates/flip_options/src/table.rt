@@ -1,3 +1,4 @@
+// The table of candidates, best first.
 ghost use Rattle.std.specs.Prelude.{◌≡◌, OnOk, slice_get};
 ghost use Rattle.complex_core.specs.Spaces.{Space};
 ghost use Rattle.stars.specs.StarViews.{IsStarListOf};

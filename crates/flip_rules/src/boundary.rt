@@ -1,3 +1,4 @@
+// The end of a certificate of a sphere: the boundary of a simplex.
 ghost use Rattle.std.specs.Prelude.{◌↔◌, IsTrue};
 ghost use Rattle.flip_rules.specs.Boundaries.{IsBoundary};
 

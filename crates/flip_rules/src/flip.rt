@@ -1,3 +1,4 @@
+// Bistellar flips: which are legal, and what they make.
 ghost use Rattle.std.specs.Prelude.{◌≡◌, ◌↔◌, IsOk, ◌≤◌, ◌<◌, ◌+◌, ◌-◌, length, Ok, OnOk, OnErr, IfErr};
 ghost use Rattle.std.specs.List.{list_any};
 ghost use Rattle.std.specs.List.Sorted.{IsStrictlySortedBy};
@@ -13,8 +14,8 @@ use complex_core::{Complex, Face};
 /// B, and puts in B with A less one label of A.
 ///
 /// A and B have d + 2 labels together, in a complex of dimension d. These are Pachner's moves, as
-/// Bjoerner and Lutz use them in "Simplicial manifolds, bistellar flips and a 16-vertex
-/// triangulation of the Poincare homology 3-sphere" (2000).
+/// Björner and Lutz use them in "Simplicial manifolds, bistellar flips and a 16-vertex
+/// triangulation of the Poincaré homology 3-sphere" (2000).
 #[derive(Clone, Copy, PartialEq, Eq, PartialOrd, Ord, Hash, Default)]
 pub struct Flip {
     /// The face that is taken out. Its link is the boundary of B.

@@ -1,3 +1,4 @@
+// Journals: what workers committed, in order.
 ghost use Rattle.std.specs.Prelude.{◌≡◌, ◌≤◌, ◌-◌, [], ◌∷◌, ◌++◌, length, take, IsOk, IfOk, OnOk, OnErr};
 ghost use Rattle.std.specs.Option.{option_to_list};
 

@@ -1,3 +1,4 @@
+// Laws of replays, exchanges and journals.
 ghost use Rattle.flip_rules.specs.Laws.{ReplayGoesOn, ReplayKeepsComplexes, ReplayDecides, FirstIllegalExcludes, FirstIllegalIsOne, ReplaysBack, ReplayIsExchange, PutInIsPure};
 ghost use Rattle.flip_rules.specs.Journals.{ShortestExists, ShortestIsOne, StarsExist, StarIsOne, StarStays};
 

@@ -1,8 +1,8 @@
 //! Bistellar flips of pure simplicial complexes: when a flip is legal, what it makes, which flip
 //! leads back, and journals of flips.
 //!
-//! A flip (A, B) is one of Pachner's moves. The rules are those of Bjoerner and Lutz, "Simplicial
-//! manifolds, bistellar flips and a 16-vertex triangulation of the Poincare homology 3-sphere"
+//! A flip (A, B) is one of Pachner's moves. The rules are those of Björner and Lutz, "Simplicial
+//! manifolds, bistellar flips and a 16-vertex triangulation of the Poincaré homology 3-sphere"
 //! (2000).
 #![tactic(auto)]
 

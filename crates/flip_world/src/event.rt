@@ -1,3 +1,4 @@
+// Events, and what they are answered.
 ghost use Rattle.std.specs.Prelude.{◌≡◌};
 ghost use Rattle.flip_world.specs.Steps.{worker_of};
 ghost use Rattle.flip_world.specs.declared.event.StepFault.TheVariants as fault;

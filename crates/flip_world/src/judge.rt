@@ -1,3 +1,4 @@
+// Whether a worker may do what an event asks.
 ghost use Rattle.std.specs.Prelude.{◌≡◌, ◌≤◌, ◌+◌, ℕ, nat_le, nat_eq, not, find, get_or, length, Ok, IfOk, IsSome, MatchOption, OnOk};
 ghost use Rattle.flip_rules.specs.Flips.{why, replay};
 ghost use Rattle.flip_world.specs.Cores.{after};

@@ -1,3 +1,4 @@
+// The core: one step for each event.
 ghost use Rattle.std.specs.Prelude.{◌≡◌, ℕ, ◌<◌, ◌≤◌, ◌-◌, ◌+◌, ◌^◌, [], length, replicate, Ok, Err, Some, MatchOption, IfOk, OnOk, OnErr, IfErr, IsTrue, ◌↔◌};
 ghost use Rattle.std.specs.List.{AllByRecursion, flat_map};
 ghost use Rattle.complex_core.specs.Spaces.{IsComplex};

@@ -1,11 +1,4 @@
-pub mod Replays
-pub mod RunTurns
-pub mod RunNames
-pub mod RunKept
-pub mod RunEnd
-pub mod Describing
-pub mod Obstructed
-pub mod Reported
-pub mod Searched
-pub mod Quits
-pub mod Answering
+mod Jobs
+mod Judged
+mod Answering
+mod Known

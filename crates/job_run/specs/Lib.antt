@@ -1,10 +1,4 @@
--- What the program answers.
-pub mod Texts
-pub mod Faults
-pub mod Readings
-pub mod TraceTexts
-pub mod Traced
-pub mod TraceRuns
-pub mod Descriptions
-pub mod Spheres
+-- What the top call answers.
+pub mod Usage
+pub mod Jobs
 pub mod Answers

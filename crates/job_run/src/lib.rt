@@ -1,25 +1,14 @@
-//! The jobs of the program.
+//! The top call: it does the job that the words ask for, from a source to a sink. What a job answers is said by the crate of that
+//! job. It touches the source, the sink, the gates and the threads that it is lent.
 #![tactic(auto)]
 
-mod fault;
-mod info;
 mod job;
 mod law;
-mod replay;
-mod sphere;
-mod text;
-mod trace;
+mod report;
+mod run;
+mod usage;
 
-pub use job::{Answer, JobReport, Status, run_job};
-pub use law::answer_is_one;
-
-#[cfg(test)]
-mod tests;
-#[cfg(test)]
-mod tests_info;
-#[cfg(test)]
-mod tests_run;
-#[cfg(test)]
-mod tests_sphere;
-#[cfg(test)]
-mod tests_trace;
+pub use job_answer::Status;
+pub use law::answer_law;
+pub use report::{Answer, JobReport};
+pub use run::run_job;

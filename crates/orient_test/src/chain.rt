@@ -1,3 +1,4 @@
+// The closed chain along which signs contradict each other.
 ghost use Rattle.std.specs.Prelude.{◌<◌, ℕ, List, IfOk, length};
 ghost use Rattle.orient_test.specs.Walks.{IsChain, IsClash};
 ghost use Rattle.orient_test.specs.Spreads.{at, IsTree, ComeEarlier, Contradicts};

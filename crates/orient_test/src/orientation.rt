@@ -1,3 +1,4 @@
+// Whether a complex is orientable, with signs or a contradiction.
 ghost use Rattle.std.specs.Prelude.{◌≡◌, IfOk, OnOk, map, List, ℕ};
 ghost use Rattle.std.specs.BTreeMap.{get};
 ghost use Rattle.complex_core.specs.Labels.{face_cmp};

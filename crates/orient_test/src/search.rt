@@ -1,3 +1,4 @@
+// Signs that spread from a facet over the ridges.
 ghost use Rattle.std.specs.Prelude.{◌≡◌, ◌<◌, ◌==◌, [], ◌∷◌, false, IfOk, OnOk, length, MatchOption, IsTrue, true, if◌then◌else◌, slice_index_or};
 ghost use Rattle.std.specs.BTreeMap.{get};
 ghost use Rattle.complex_core.specs.Labels.{has, face_cmp};

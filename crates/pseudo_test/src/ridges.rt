@@ -1,3 +1,4 @@
+// Whether each ridge lies in two facets, or in at most two.
 ghost use Rattle.std.specs.Prelude.{◌≡◌, ◌↔◌, IfOk, IsTrue, length, MatchOption};
 ghost use Rattle.pseudo_test.specs.Ridges.{Closed, Thin, IsLeastOther};
 ghost use Rattle.pseudo_test.specs.Sides.{IsRun};

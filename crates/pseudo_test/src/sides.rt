@@ -1,3 +1,4 @@
+// The sides of facets: each ridge with each label that makes a facet of it, in order.
 ghost use Rattle.std.specs.Prelude.{◌≡◌, ◌++◌, IfOk, OnOk};
 ghost use Rattle.std.specs.List.Sorted.{IsStrictlySortedBy};
 ghost use Rattle.complex_core.specs.Rising.{rising};

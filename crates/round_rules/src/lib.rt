@@ -21,8 +21,8 @@
 //! be idle: where nothing hindered it, it commits. By [`round_ends`] and [`round_grows`] the end of a right
 //! round is a complex on the same places, with a bounded number of facets.
 //!
-//! Flips and the strategy are those of Bjoerner and Lutz, "Simplicial manifolds, bistellar flips and a
-//! 16-vertex triangulation of the Poincare homology 3-sphere" (2000).
+//! Flips and the strategy are those of Björner and Lutz, "Simplicial manifolds, bistellar flips and a
+//! 16-vertex triangulation of the Poincaré homology 3-sphere" (2000).
 #![tactic(auto)]
 
 mod laws;

@@ -1,3 +1,4 @@
+// The stars of a complex, and the complex of stars.
 ghost use Rattle.std.specs.Prelude.{◌≡◌, ◌<◌, ◌≤◌, ◌-◌, ◌++◌, ◌∷◌, [], IfOk, OnOk, nat_le};
 ghost use Rattle.std.specs.List.{list_all};
 ghost use Rattle.complex_core.specs.Labels.{face_cmp};

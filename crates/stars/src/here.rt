@@ -1,3 +1,4 @@
+// A flip that is judged and made on the stars of its own labels.
 ghost use Rattle.std.specs.Prelude.{◌≡◌, true, [], Ok, Err, OnOk, OnErr, IfErr, MatchOption, IsTrue, ◌↔◌, nat_eq};
 ghost use Rattle.std.specs.List.{list_all, list_any};
 ghost use Rattle.complex_core.specs.Labels.{IsFace, IsRising, has};

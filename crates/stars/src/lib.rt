@@ -4,8 +4,8 @@
 //! The star of a vertex is the list of the facets that contain it. Which rule a bistellar flip
 //! (A, B) breaks is seen in the star of one label of A and the star of one label of B, and a flip
 //! changes no star but those of A and B. So flips need no pass over the whole complex. They are those
-//! of Bjoerner and Lutz, "Simplicial manifolds, bistellar flips and a 16-vertex triangulation of the
-//! Poincare homology 3-sphere" (2000), after Pachner's moves.
+//! of Björner and Lutz, "Simplicial manifolds, bistellar flips and a 16-vertex triangulation of the
+//! Poincaré homology 3-sphere" (2000), after Pachner's moves.
 #![tactic(auto)]
 
 mod build;

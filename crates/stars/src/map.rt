@@ -1,3 +1,4 @@
+// A star for each place.
 ghost use Rattle.std.specs.Prelude.{◌≡◌, ◌<◌, ◌≤◌, ◌-◌, ◌++◌, ◌∷◌, [], ◌^◌, Ok, Err, length, map, IfOk, OnOk, OnErr, IfErr, IsTrue, ◌↔◌};
 ghost use Rattle.std.specs.List.{AllByRecursion, flat_map};
 ghost use Rattle.complex_core.specs.Spaces.{Space, IsComplex};

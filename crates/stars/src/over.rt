@@ -1,3 +1,4 @@
+// The rows of a star over a face.
 ghost use Rattle.std.specs.Prelude.{◌≡◌};
 ghost use Rattle.std.specs.Iterator.{YieldsFirstRef, item_count};
 ghost use Rattle.complex_core.specs.Spaces.{over};

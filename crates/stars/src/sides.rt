@@ -1,3 +1,4 @@
+// The facets that a flip takes out or puts in, one after another.
 ghost use Rattle.std.specs.Prelude.{◌≡◌, ◌≤◌, ◌+◌, length};
 ghost use Rattle.complex_core.specs.Labels.{union, without};
 ghost use Rattle.flip_rules.specs.Flips.{sides};

@@ -1,3 +1,4 @@
+// The star of a vertex.
 ghost use Rattle.std.specs.Prelude.{◌≡◌, ◌<◌, ◌≤◌, ◌==◌, [], length, IfOk, OnOk};
 ghost use Rattle.complex_core.specs.Spaces.{over};
 ghost use Rattle.stars.specs.StarViews.{IsStar};

@@ -1,3 +1,4 @@
+// A board, from its opening to its close.
 ghost use Rattle.std.specs.Prelude.{◌≡◌, ◌+◌, ◌<◌, ◌≤◌, ◌∷◌, [], IfOk, length};
 ghost use Rattle.std.proofs.Props.{props};
 ghost use Rattle.complex_core.specs.Spaces.{IsComplex};

@@ -1,3 +1,4 @@
+// Main, who hands out the passes and takes them back.
 ghost use Rattle.std.specs.Prelude.{◌≡◌, ◌+◌, ◌<◌, IfOk, OnErr, true, length};
 ghost use Rattle.board_rule.specs.Views.{is_main, chief_of};
 

@@ -1,3 +1,4 @@
+// Counts a refused claim in the mark of its try.
 ghost use Rattle.std.specs.Prelude.{◌≡◌, List, vec_len, vec_capacity};
 ghost use Rattle.board_rule.specs.Tries.{Try, at_last, refused_at};
 ghost use Rattle.vertex_claims.specs.Marks.{marks_of};

@@ -1,3 +1,4 @@
+// Lays the stars of a complex on a board, and takes them off.
 ghost use Rattle.std.specs.Prelude.{◌≡◌, ◌+◌, ◌<◌, ◌≤◌, ◌∷◌, [], ℕ, List, IfOk, length, map, vec_capacity};
 ghost use Rattle.std.specs.Slots.{slots_items, slots_len, IsFull};
 ghost use mathlib.Core.Option.{some};

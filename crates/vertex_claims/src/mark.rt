@@ -1,3 +1,4 @@
+// What a pass keeps of its tries.
 ghost use Rattle.std.specs.Prelude.{◌≡◌};
 
 use std::marker::Model;

@@ -1,3 +1,4 @@
+// A pass: the token of one worker, by which it claims, releases and commits.
 ghost use Rattle.std.specs.Prelude.{◌≡◌, ◌≢◌, ◌+◌, ◌<◌, ◌≤◌, ℕ, IfOk, IfErr, OnOk, OnErr, IsSome, true, false, length, vec_len, vec_capacity, slice_index_or, nat_eq};
 ghost use Rattle.std.specs.VecDeque.{deque_capacity};
 ghost use Rattle.std.proofs.Props.{props};

@@ -1,5 +1,5 @@
 // One whole try of a flip of two labels, as callers make it. Such flips, on complexes of dimension 0,
-// move a point. The tests run it.
+// move a point. Nothing calls it: it is what must-fail edits spoil, since a caller that breaks the rules of a pass must be refused.
 ghost use Rattle.std.specs.Prelude.{◌≡◌, ◌<◌, ◌≤◌, ◌∷◌, [], true, false, Ok, IfOk, IfSome};
 ghost use Rattle.complex_core.specs.Spaces.{Space};
 ghost use Rattle.flip_rules.specs.Flips.{why};

@@ -1,3 +1,4 @@
+// Turns the order of what a pass holds, to bring a place to its front.
 ghost use Rattle.std.specs.Prelude.{◌≡◌, ◌<◌, length, true};
 ghost use Rattle.std.specs.VecDeque.{deque_capacity};
 ghost use Rattle.atomic_table.specs.Table.{turned};

@@ -1,0 +1,2 @@
+mod Describing
+pub mod Laws

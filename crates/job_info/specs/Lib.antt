@@ -1,0 +1,4 @@
+-- What the job `info` answers.
+pub mod Descriptions
+pub mod Answers
+pub mod Laws

@@ -1,7 +1,0 @@
-use Rattle.std.proofs.Common.{◌≡◌, ◌++◌, take, string_bytes}
-use Rattle.std.specs.List.{flat_map}
-use Rattle.line_text.specs.Writing.{set_off}
-use Rattle.job_run.proofs.text.write_set_off.Given as goal
-
-abbrev pub invariant-loop-label : goal.invariant-loop-label
-invariant-loop-label l = string_bytes l.text ≡ string_bytes l.fn.text ++ flat_map set_off (take l.label-index l.labels)

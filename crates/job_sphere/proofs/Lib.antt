@@ -1,0 +1,5 @@
+mod Reported
+mod Ends
+mod Obstructed
+mod Searched
+pub mod Laws

@@ -1,0 +1,75 @@
+-- What a search from a complex shows.
+use Rattle.std.proofs.Common.{◌≡◌, ℕ, ◌≤◌, inl, inr, List, length, sym, ◌∙◌, ap, refl, Option, Ok, arith}
+use Rattle.std.proofs.lemmas.List.{length-map}
+use Rattle.complex_core.specs.Spaces.{Space}
+use Rattle.facet_text.specs.Writing.{KeepsLimits as KeepsTextLimits}
+use Rattle.cert_text.specs.Claims.{Sphere}
+use Rattle.cert_text.specs.Writing.{AreFlips}
+use Rattle.flip_rules.specs.Certificates.{SphereCert}
+use Rattle.flip_rules.specs.declared.flip.Flip.{Flip}
+use Rattle.flip_laws.specs.Obstacles.{LooksLikeSphere}
+use Rattle.flip_names.specs.Names.{named_flip}
+use Rattle.sphere_text.specs.Texts.{certified, IsReadAgain}
+use Rattle.sphere_text.proofs.ReadAgain.{certified_is_read}
+use Rattle.anneal_plan.specs.Numbers.{Numbers, KeepsLimits}
+use Rattle.round_run.specs.Reports.{ReportView, IsSphere}
+use Rattle.report_text.specs.Shown.{flips_of, told_flips, IsReported}
+use Rattle.job_answer.specs.Alone.{complex_of}
+use Rattle.job_answer.specs.Meanings.{Judges}
+use Rattle.job_answer.specs.declared.status.Status.{Status}
+use Rattle.job_answer.specs.declared.status.Status.TheVariants.{Yes, Undecided}
+use Rattle.job_replay.specs.Answers.{TellsCertified}
+use Rattle.job_replay.specs.Readings.{behind, claimed}
+use Rattle.job_sphere.specs.Texts.{found_text}
+use Rattle.job_sphere.specs.Answers.{ComesTo, Searches, ShowsHistory, IsCertificate, meaning}
+use Rattle.job_sphere.proofs.Ends.{descents_of, ok_of}
+use Rattle.job_sphere.proofs.Reported.{report_is_shown, end_is_minimal, certified_is_short}
+
+history_of : (plan : Numbers) (k : Space) (s : Status) (xs : List ℕ) (r : ReportView) → KeepsTextLimits k → KeepsLimits plan → ComesTo k plan r s xs → ShowsHistory k plan r
+history_of plan k s xs r limits numbers c = record {
+  ok = ok_of k plan r s xs c;
+  shown = report_is_shown k plan r limits numbers (ok_of k plan r s xs c);
+  minimal = end_is_minimal k plan r (ok_of k plan r s xs c) (descents_of k plan r s xs c);
+}
+
+-- the complex with the flips behind it tells a sphere
+abbrev certified_tells : (k : Space) (flips : List Flip) → KeepsTextLimits k → length flips ≤ 2520000 → AreFlips flips → SphereCert k flips → TellsCertified (certified k flips)
+certified_tells k flips limits few fit shows =
+    let r : IsReadAgain k flips = certified_is_read k flips limits fit in
+    record {
+      short = certified_is_short k flips limits fit few;
+      start = k;
+      claim = Sphere flips;
+      input = ap (behind (certified k flips)) r.complex ∙ ap (claimed k) r.certificate;
+      shows = shows;
+    }
+
+-- a Yes has its certificate
+certificate_of : (xs : List ℕ) (plan : Numbers) (k : Space) (r : ReportView) → KeepsTextLimits k → KeepsLimits plan → IsSphere k plan r → xs ≡ found_text (length r.rounds) (told_flips r) → IsCertificate k r xs
+certificate_of xs plan k r limits numbers h says =
+    let i : IsReported k plan r = report_is_shown k plan r limits numbers h.ok in
+    record {
+      flips = told_flips r;
+      flips_are = refl;
+      says = says;
+      shows = i.certificate h.boundary;
+      valid = certified_tells k (told_flips r) limits (omega (arith, i.few, length-map (flips_of r) (named_flip r.names))) i.fit (i.certificate h.boundary);
+      of_sphere = refl;
+    }
+
+certified_coming : (xs : List ℕ) (plan : Numbers) (k : Space) (s : Status) (r : ReportView) → KeepsTextLimits k → KeepsLimits plan → ComesTo k plan r s xs → s ≡ Yes → IsCertificate k r xs
+certified_coming xs plan k s r limits numbers (inl a) y = certificate_of xs plan k r limits numbers a.sphere a.says
+certified_coming xs plan k s r limits numbers (inr a) y = let z : Undecided ≡ Yes = sym a.is_undecided ∙ y in cc
+
+-- so a search from a complex that lacks no fact of a sphere is its answer
+pub search_judged : (plan : Numbers) (bytes : List ℕ) (k : Space) (s : Status) (xs : List ℕ) (p : Option ReportView) → complex_of bytes ≡ Ok k → LooksLikeSphere k → KeepsTextLimits k → KeepsLimits plan → Searches k plan s xs p → Judges (meaning plan) bytes s xs p
+search_judged plan bytes k s xs p e looks limits numbers h = inr (record {
+  told = k;
+  input = e;
+  answer = inr (record {
+    looks = looks;
+    search = h;
+    history = history_of plan k s xs h.report limits numbers h.comes;
+    certificate = certified_coming xs plan k s h.report limits numbers h.comes;
+  });
+})
