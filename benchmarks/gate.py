@@ -53,7 +53,7 @@ def provers(root):
 def run(top, words):
     begin = time.monotonic()
     since = lambda: time.monotonic() - begin
-    ran = subprocess.Popen(["rt", "ci", *words], cwd=top, stdin=subprocess.DEVNULL, stdout=subprocess.PIPE, stderr=subprocess.STDOUT, text=True, errors="replace")
+    ran = subprocess.Popen(["rt", "ci", *words], cwd=top, stdin=subprocess.DEVNULL, stdout=subprocess.PIPE, stderr=subprocess.STDOUT, text=True, errors="replace", env={**os.environ, "PYTHONUNBUFFERED": "1"})
     alive, printing = {}, threading.Lock()
 
     def say(text):

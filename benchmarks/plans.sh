@@ -1,0 +1,35 @@
+#!/bin/sh
+# What the recommended plan of each dimension finds with one worker, beside the plan of the defaults: cross polytopes, joins of polygons and subdivided
+# spheres, with three seeds each.
+# Usage: benchmarks/plans.sh [FACETS]
+set -eu
+top=$(CDPATH= cd -- "$(dirname -- "$0")/.." && pwd)
+facets=${1:-400}
+room=$(mktemp -d)
+trap 'rm -rf "$room"' EXIT
+"$top/bistellar" replay <"$top/examples/tetrahedron.txt" >/dev/null
+plan() {
+    case $1 in
+    2) echo --rounds 1000 --tries 250 --heat 15 --relax 235 --depth 1 --room 16 ;;
+    3) echo --rounds 2500 --tries 100 --heat 6 --relax 94 --depth 2 --room 16 ;;
+    4) echo --rounds 500 --tries 500 --heat 30 --relax 470 --depth 1 --room 16 ;;
+    5) echo --rounds 500 --tries 500 --heat 65 --relax 435 --depth 2 --room 1 ;;
+    6) echo --rounds 500 --tries 500 --heat 100 --relax 400 --depth 3 --room 1 ;;
+    esac
+}
+search() {
+    kind=$1 dim=$2 count=$3
+    python3 "$top/benchmarks/spheres.py" "$kind" "$dim" "$count" 1 >"$room/input"
+    for seed in 1 2 3; do
+        printf '%s, dimension %s, plan: ' "$kind" "$dim"
+        python3 "$top/benchmarks/sphere.py" "$room/input" "$top/crates/bistellar/out/bistellar" 1 --seed "$seed" $(plan "$dim")
+        printf '%s, dimension %s, defaults: ' "$kind" "$dim"
+        python3 "$top/benchmarks/sphere.py" "$room/input" "$top/crates/bistellar/out/bistellar" 1 --seed "$seed"
+    done
+}
+for dim in 2 3 4 5 6; do
+    # The cross polytope is the join of squares, with two points more where the dimension is even.
+    search join "$dim" $((1 << (dim + 1)))
+    search join "$dim" "$facets"
+    search subdivided "$dim" "$facets"
+done
