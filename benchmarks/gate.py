@@ -3,8 +3,9 @@
 usage: gate.py TOP run [WORD ..]    runs `rt ci --anew`, or `rt ci WORD ..`, at TOP
        gate.py TOP LOG              prints the table of such a log
 
-A line of a log has the seconds since the start. A line `process KIND CRATE BEGAN SECONDS` stands for a process of the prover that ended: KIND is proof, tests
-or edits (an edit, or the check of the crate that its edits begin with), BEGAN the seconds since the start, SECONDS what it took of a processor.
+A line of a log has the seconds since the start. A line `process KIND CRATE BEGAN SECONDS EDIT` stands for a process of the prover that ended: KIND is proof, tests
+or edits, BEGAN the seconds since the start, SECONDS what it took of a processor, EDIT the number of the edit by its name, from 0, or `seed` for the check of
+the crate that its edits begin with, or `-`.
 """
 import os
 import re
@@ -14,6 +15,8 @@ import threading
 import time
 
 TICKS = os.sysconf("SC_CLK_TCK")
+# An edit that takes more seconds is named.
+DEAR = 60
 
 
 def stat(number):
@@ -45,7 +48,8 @@ def provers(root):
                 place = os.readlink(f"/proc/{number}/cwd")
                 if os.path.basename(words[0]) == "rattle" and "--crate-name" in words:
                     kind = "edits" if "/rt-edit-" in place else "tests" if "--test" in words else "proof"
-                    yield number, words[words.index("--crate-name") + 1], kind, seconds[number]
+                    edit = os.path.basename(words[words.index("--incremental") + 1]) if kind == "edits" and "--incremental" in words else "-"
+                    yield number, words[words.index("--crate-name") + 1], kind, seconds[number], edit
         except (OSError, ValueError):
             pass
 
@@ -63,15 +67,15 @@ def run(top, words):
     def watch():
         while ran.poll() is None:
             seen = set()
-            for number, crate, kind, seconds in provers(ran.pid):
+            for number, crate, kind, seconds, edit in provers(ran.pid):
                 seen.add(number)
-                alive[number] = kind, crate, alive.get(number, (0, 0, since()))[2], seconds
+                alive[number] = kind, crate, alive.get(number, (0, 0, since()))[2], seconds, edit
             for number in [it for it in alive if it not in seen]:
-                kind, crate, began, seconds = alive.pop(number)
-                say(f"process {kind} {crate} {began:.1f} {seconds:.1f}")
+                kind, crate, began, seconds, edit = alive.pop(number)
+                say(f"process {kind} {crate} {began:.1f} {seconds:.1f} {edit}")
             time.sleep(0.2)
-        for kind, crate, began, seconds in alive.values():
-            say(f"process {kind} {crate} {began:.1f} {seconds:.1f}")
+        for kind, crate, began, seconds, edit in alive.values():
+            say(f"process {kind} {crate} {began:.1f} {seconds:.1f} {edit}")
 
     watcher = threading.Thread(target=watch)
     watcher.start()
@@ -103,8 +107,13 @@ def longest(below, cost):
     return max(chain(name) for name in below)
 
 
+def edit_of(top, crate, number):
+    names = sorted(it for it in os.listdir(f"{top}/crates/{crate}/must-fail") if it.endswith(".edit"))
+    return names[number] if number < len(names) else "?"
+
+
 def table(top, log):
-    costs, ends, edits = {}, {}, {}
+    costs, edits, dear = {}, {}, []
     last = 0.0
     with open(log, errors="replace") as it:
         for line in it:
@@ -113,9 +122,11 @@ def table(top, log):
                 continue
             last = float(at[1])
             said = at[2].split()
-            if said[:1] == ["process"] and len(said) == 5:
+            if said[:1] == ["process"] and len(said) == 6:
                 row = costs.setdefault(said[2], {"proof": 0.0, "tests": 0.0, "edits": 0.0})
                 row[said[1]] += float(said[4])
+                if said[5].isdigit() and float(said[4]) > DEAR:
+                    dear.append((float(said[4]), said[2], edit_of(top, said[2], int(said[5]))))
             elif said[:2] == ["rt:", "must-fail"] and len(said) > 2:
                 name = said[2].partition("/")[0]
                 edits[name] = edits.get(name, 0) + 1
@@ -126,6 +137,8 @@ def table(top, log):
         print(f"| `{name}` | {row['proof']:.0f} | {row['tests']:.0f} | {row['edits']:.0f} | {edits.get(name, 0)} | {total(row):.0f} |")
     sums = [sum(row[kind] for row in costs.values()) for kind in ("proof", "tests", "edits")]
     print(f"| all | {sums[0]:.0f} | {sums[1]:.0f} | {sums[2]:.0f} | {sum(edits.values())} | {sum(sums):.0f} |")
+    for seconds, crate, edit in sorted(dear, reverse=True):
+        print(f"\nAn edit of over {DEAR} seconds: {crate}/{edit}, {seconds:.0f}.")
     cost, names = longest(libraries(top), {name: row["proof"] for name, row in costs.items()})
     print(f"\n{last / 60:.0f} minutes from the start to the last line. The longest chain of proofs takes {cost / 60:.0f} minutes: {', '.join(names)}.")
 
