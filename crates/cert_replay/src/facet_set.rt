@@ -1,14 +1,14 @@
 // The facets of a complex in one ordered set.
-ghost use Rattle.std.specs.Prelude.{◌≡◌, ◌≤◌, ◌<◌, ◌+◌, ◌∷◌, [], length, map, IfOk, OnOk, IfErr, Ok};
+ghost use Rattle.std.specs.Prelude.{◌≡◌, ◌<◌, ◌∷◌, [], length, map, IfOk, OnOk, IfErr, Ok};
 ghost use Rattle.std.specs.List.Sorted.{IsStrictlySortedBy};
 ghost use Rattle.complex_core.specs.Labels.{face_cmp};
 ghost use Rattle.complex_core.specs.Spaces.{Space, over};
-ghost use Rattle.flip_rules.specs.Flips.{sides, why, flipped, CanPut, FlipRefused, OfFaces};
+ghost use Rattle.flip_rules.specs.Flips.{why, flipped, CanPut, FlipRefused, OfFaces};
 ghost use Rattle.std.specs.BTreeSet.{IsOrdered};
 ghost use Rattle.cert_replay.specs.Rows.{row_cmp, facets_at, Puts, Takes};
 
 use complex_core::{Complex, ComplexFault, Face};
-use flip_rules::{Flip, FlipFault, check_near};
+use flip_rules::{Flip, FlipFault, Sides, check_near};
 use std::alloc::{AllocError, Global};
 use std::collections::BTreeSet;
 use std::marker::Model;
@@ -71,20 +71,6 @@ fn take_facets(rows: &mut BTreeSet<Row>, facets: &[Face])
     for facet in facets {
         take_facet(rows, facet);
     }
-}
-
-// Puts in the rows of the sides of a first set with a second one.
-fn put_sides(rows: &mut BTreeSet<Row>, first: &Face, second: &Face) -> Result<(), AllocError>
-    requires { length first.now + length second.now ≤ 8 }
-    ensures { OnOk result (Puts (sides first.now second.now) rows.old rows.new) }
-{
-    for label in second.labels() {
-        let Some(side) = first.union(&second.without(*label)) else {
-            unreachable!();
-        };
-        put_facet(rows, &side)?;
-    }
-    Ok(())
 }
 
 // The facets of a label's rows that contain a set, in order.
@@ -167,9 +153,10 @@ impl FacetSet {
         ensures why { IfErr result (FlipRefused (why self flip.now.a flip.now.b)) }
     {
         let out = self.check(alloc, flip)?;
+        let more = Sides::of(&flip.b, &flip.a);
         let FacetSet { dim, mut rows } = self;
         take_facets(&mut rows, &out);
-        match put_sides(&mut rows, &flip.b, &flip.a) {
+        match put_facets(&mut rows, more.as_slice()) {
             Ok(()) => Ok(FacetSet { dim, rows }),
             Err(_) => Err(FlipFault::Memory),
         }

@@ -17,3 +17,4 @@ pub use boundary::is_simplex_boundary;
 pub use flip::{Flip, FlipFault, Illegal, apply, check, check_near, index, inverse};
 pub use journal::{Entry, Flips, Journal};
 pub use laws::{exchange_law, journal_law, replay_law};
+pub use sides::Sides;

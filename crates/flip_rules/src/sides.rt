@@ -1,15 +1,19 @@
-// The facets that a flip takes out or puts in, one after another.
-ghost use Rattle.std.specs.Prelude.{◌≡◌, ◌≤◌, ◌+◌, length};
+// The facets that a flip takes out or puts in, one after another, in a value that takes no memory.
+ghost use Rattle.std.specs.Prelude.{◌≡◌, ◌≤◌, ◌+◌, ◌∷◌, [], length};
 ghost use Rattle.complex_core.specs.Labels.{union, without};
+ghost use Rattle.complex_core.specs.Spaces.{over};
 ghost use Rattle.flip_rules.specs.Flips.{sides};
 
 use complex_core::Face;
 use std::marker::Model;
 
-// The sides of a first set with a second one: their union less one label of the second, for each of
-// these. Contracts see the list of the sides.
+/// The sides of a first set with a second one: their union less one label of the second, for each of
+/// these. Contracts see the list of the sides.
+///
+/// A flip (A, B) takes out the sides of A with B, and puts in those of B with A. They are at most
+/// eight, so they take no memory.
 #[derive(Drop)]
-pub(crate) struct Sides {
+pub struct Sides {
     all: [Face; 8],
     count: usize,
 }
@@ -36,7 +40,8 @@ fn side(first: &Face, second: &Face, label: u16) -> Face
 }
 
 impl Sides {
-    pub(crate) fn of(first: &Face, second: &Face) -> Sides
+    /// The sides of the first set with the second: one for each label of the second, in its order.
+    pub fn of(first: &Face, second: &Face) -> Sides
         requires { length first.now + length second.now ≤ 8 }
         ensures { result ≡ sides first.now second.now }
     {
@@ -51,7 +56,24 @@ impl Sides {
         }
     }
 
-    pub(crate) fn as_slice(&self) -> &[Face]
+    /// Those of some sets, at most eight, that contain a label, in their order.
+    pub fn holding(sets: &[Face], label: u16) -> Sides
+        requires { length sets.now ≤ 8 }
+        ensures { result ≡ over sets.now (label ∷ []) }
+    {
+        let mut all = [Face::new(); 8];
+        let mut count = 0;
+        for set in sets {
+            if set.contains(label) {
+                all[count] = *set;
+                count += 1;
+            }
+        }
+        Sides { all, count }
+    }
+
+    /// The sets, in their order.
+    pub fn as_slice(&self) -> &[Face]
         ensures { result.now ≡ self.now }
     {
         &self.all[..self.count]

@@ -1,15 +1,15 @@
 // The pending flips of a worker.
 ghost use Rattle.std.specs.Prelude.{◌≡◌, ◌+◌, ◌≤◌, ◌<◌, [], ◌∷◌, ◌++◌, length, filter, IfOk, OnOk, OnErr, IsSome};
 ghost use Rattle.std.specs.List.Sorted.{IsStrictlySortedBy};
-ghost use Rattle.complex_core.specs.Labels.{IsFace, face_cmp, union, without};
+ghost use Rattle.complex_core.specs.Labels.{face_cmp};
 ghost use Rattle.complex_core.specs.Rising.{rising};
 ghost use Rattle.complex_core.specs.Spaces.{IsComplex, over, staying, is_facet};
-ghost use Rattle.flip_rules.specs.Flips.{sides, replay};
+ghost use Rattle.flip_rules.specs.Flips.{replay};
 ghost use Rattle.flip_world.specs.Cores.{after};
 ghost use Rattle.flip_world.specs.Drafts.{SeenOver};
 
 use complex_core::{Complex, Face, put_all_in, take_all_out};
-use flip_rules::Flip;
+use flip_rules::{Flip, Sides};
 use std::alloc::{AllocError, Global};
 use std::marker::Model;
 
@@ -34,30 +34,6 @@ impl Model for Draft {
     ghost view = { λ d. d.flips.items };
 
     ghost invariant = { λ d. IsDraft d.flips.items d.out.items d.more.items };
-}
-
-// The first set, and the second less a label.
-fn side(first: &Face, second: &Face, label: u16) -> Face
-    requires { length first.now + length second.now ≤ 8 }
-    ensures { result ≡ union first.now (without second.now label) }
-{
-    match first.union(&second.without(label)) {
-        Some(side) => side,
-        None => unreachable!(),
-    }
-}
-
-// The sides of the first set with the second.
-fn all_sides(alloc: Global, first: &Face, second: &Face) -> Result<Vec<Face>, AllocError>
-    requires { length first.now + length second.now ≤ 8 }
-    ensures sides { IfOk result (λ v. v.items ≡ sides first.now second.now) }
-    ensures face { IsFace second.now }
-{
-    second
-        .labels()
-        .iter()
-        .map(|label| side(first, second, *label))
-        .collect(alloc)
 }
 
 // The sets of both lists, rising, each once.
@@ -138,16 +114,20 @@ impl Draft {
         ensures ok { OnOk result (self.new ≡ self.old ++ flip.now ∷ []) }
         ensures err { OnErr result (self.new ≡ self.old) }
     {
-        let alloc = *self.flips.allocator();
-        let old_sides = all_sides(alloc, &flip.a, &flip.b)?;
-        let new_sides = all_sides(alloc, &flip.b, &flip.a)?;
+        // The sides are a flip's where its labels are in order: `labels` says so.
+        let _first = flip.a.labels();
+        let _second = flip.b.labels();
+        let old_sides = Sides::of(&flip.a, &flip.b);
+        let new_sides = Sides::of(&flip.b, &flip.a);
+        let out = old_sides.as_slice();
+        let more = new_sides.as_slice();
         // Room first, so that nothing is changed where there is none.
-        self.out.reserve(old_sides.len())?;
-        self.more.reserve(new_sides.len())?;
+        self.out.reserve(out.len())?;
+        self.more.reserve(more.len())?;
         self.flips.push(*flip)?;
-        put_all_in(&mut self.out, &old_sides);
-        take_all_out(&mut self.more, &old_sides);
-        put_all_in(&mut self.more, &new_sides);
+        put_all_in(&mut self.out, out);
+        take_all_out(&mut self.more, out);
+        put_all_in(&mut self.more, more);
         Ok(())
     }
 

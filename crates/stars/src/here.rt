@@ -9,10 +9,9 @@ ghost use Rattle.stars.specs.StarViews.{vertices, IsStarOf, AreStarsOf, HasLabel
 ghost use Rattle.stars.specs.FlipsHere.{stars_flipped};
 
 use crate::rows::{change_stars, place_of};
-use crate::sides::Sides;
 use crate::star::Star;
 use complex_core::Face;
-use flip_rules::{Flip, FlipFault, Illegal, check_near};
+use flip_rules::{Flip, FlipFault, Illegal, Sides, check_near};
 
 // Some label of a set, if it has one.
 fn some_label(set: &Face) -> Option<u16>
@@ -32,8 +31,8 @@ fn star_of(near: &[Star], vertex: u16) -> &Star
     &near[place_of(near, vertex)]
 }
 
-// Whether the star of a vertex is there.
-fn has_star(near: &[Star], vertex: u16) -> bool
+/// Whether the star of a vertex is among some stars.
+pub fn has_star(near: &[Star], vertex: u16) -> bool
     ensures { result ≡ list_any (λ s. nat_eq s.vertex vertex) near.now }
 {
     near.iter().any(|star| star.vertex() == vertex)

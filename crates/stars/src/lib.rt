@@ -14,10 +14,9 @@ mod laws;
 mod map;
 mod over;
 mod rows;
-mod sides;
 mod star;
 
-pub use here::{flip_here, has_labels, local_check};
+pub use here::{flip_here, has_labels, has_star, local_check};
 pub use laws::flips_seen_here;
 pub use map::StarMap;
 pub use over::Over;

@@ -7,9 +7,9 @@ ghost use Rattle.complex_core.specs.Labels.{IsRising, has, holds};
 ghost use Rattle.stars.specs.StarViews.{VertexStar, vertices};
 ghost use Rattle.stars.specs.Changes.{stars_changed, CanChange};
 
-use crate::sides::Sides;
 use crate::star::Star;
 use complex_core::{Face, put_all_in, take_all_out};
+use flip_rules::Sides;
 use std::alloc::AllocError;
 
 // The place of a vertex among stars that rise in their vertices.
