@@ -2,6 +2,7 @@
 pub mod Rising
 pub mod Labels
 pub mod FaceFaults
+pub mod Padding
 pub mod Packed
 pub mod Packing
 pub mod Spaces
