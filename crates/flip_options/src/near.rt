@@ -28,7 +28,8 @@ pub(crate) fn near<'a>(stars: &'a StarMap, set: &Face) -> &'a [Face]
         over result.now set.now ≡ over k.facets set.now }
     ensures rising { IsStrictlySortedBy face_cmp result.now }
 {
-    let Some((first, others)) = set.labels().split_first() else {
+    let labels = set.labels();
+    let Some((first, others)) = labels.split_first() else {
         return &[];
     };
     let mut least = rows_of(stars, *first);

@@ -47,7 +47,7 @@ impl Sides {
         }
         Sides {
             all,
-            count: labels.len(),
+            count: second.len(),
         }
     }
 

@@ -48,7 +48,7 @@ impl Sides {
         }
         Sides {
             all,
-            count: labels.len(),
+            count: second.len(),
         }
     }
 
