@@ -39,7 +39,7 @@ impl Model for FacetSet {
 fn put_facet(rows: &mut BTreeSet<Row>, facet: &Face) -> Result<(), AllocError>
     ensures { OnOk result (Puts (facet.now ∷ []) rows.old rows.new) }
 {
-    for label in facet.labels() {
+    for label in facet.labels().as_slice() {
         rows.insert((u32::from(*label), *facet))?;
     }
     Ok(())
@@ -49,7 +49,7 @@ fn put_facet(rows: &mut BTreeSet<Row>, facet: &Face) -> Result<(), AllocError>
 fn take_facet(rows: &mut BTreeSet<Row>, facet: &Face)
     ensures { Takes (facet.now ∷ []) rows.old rows.new }
 {
-    for label in facet.labels() {
+    for label in facet.labels().as_slice() {
         rows.remove(&(u32::from(*label), *facet));
     }
 }

@@ -1,6 +1,6 @@
 -- Faces as lists of labels.
 use Rattle.std.proofs.Common.{◌≡◌, ℕ, ◌+◌, ◌-◌, ◌<◌, ◌≤◌, zero, suc, inl, inr, get_or, Result, Ok, Err, Bool, true, false, not, nat_eq, ◌≢◌, cond, ◌||◌, List, [], ◌∷◌, ◌++◌, length, take, drop, sym, ◌∙◌, ap, refl, subst, arith, length-append, append_assoc}
-use Rattle.std.specs.List.{filter}
+use Rattle.std.specs.List.{filter, insert, remove}
 use Rattle.std.specs.List.Sorted.{IsStrictlySortedBy}
 use Rattle.std.specs.Ordering.{nat_cmp, match_ordering, eq_by_cmp}
 use Rattle.std.specs.declared.cmp.Ordering.TheVariants.{Less, Equal, Greater}
@@ -9,7 +9,8 @@ use Rattle.std.proofs.lemmas.Bool.Decides.{nat_tests}
 use Rattle.std.specs.Result.{MatchResult}
 use Rattle.std.specs.List.Sorted.{IsBinarySearchResult}
 use Rattle.std.proofs.Math.Seq.{take-length}
-use Rattle.std.proofs.lemmas.List.{take-append-drop, length-drop, length-take}
+use Rattle.std.proofs.lemmas.List.{take-append-drop, length-drop}
+use Rattle.std.proofs.lemmas.List.Edits.{length-insert}
 use Rattle.std.proofs.lemmas.List.Sorted.{searched}
 use Rattle.std.proofs.lemmas.Bool.{cases_lt}
 use Rattle.std.proofs.lemmas.Map.Keys.{Less-from_sorted}
@@ -111,17 +112,18 @@ around (x ∷ xs) (suc i) d h = let e : suc i + 1 ≡ suc (i + 1) = omega arith 
 pub face_same : (xs ys : List ℕ) → xs ≡ ys → IsFace xs → IsFace ys
 face_same xs ys e h = let P : List ℕ → Type 0 = λ zs. IsFace zs in subst P e h
 
-pub face_take : (n : ℕ) (xs : List ℕ) → IsFace xs → IsFace (take n xs)
-face_take n xs h = face_front (take n xs) (drop n xs) (face_same xs (take n xs ++ drop n xs) (sym (take-append-drop n xs)) h)
-
-pub tail_is : (xs : List ℕ) (n : ℕ) → take (length xs - n) (drop n xs) ≡ drop n xs
-tail_is xs n = ap (λ k. take k (drop n xs)) (sym (length-drop n xs)) ∙ take-length (drop n xs)
+-- a label that is found at a place
+pub record Found (xs : List ℕ) (x at : ℕ) : Type 0 where
+  pub inside : at < length xs
+  pub same : with xs x ≡ xs
+  pub removed : remove xs at ≡ without xs x
 
 -- a label that goes to a place
 pub record Placed (xs : List ℕ) (x at : ℕ) : Type 0 where
   pub few : at ≤ length xs
   pub more : length (with xs x) ≡ length xs + 1
-  pub is : (take at xs ++ x ∷ []) ++ drop at xs ≡ with xs x
+  pub inserted : insert xs at x ≡ with xs x
+  pub same : without xs x ≡ xs
 
 pub rises_by_place : (xs : List ℕ) → IsFace xs → (i j : ℕ) → i ≤ j → j < length xs → get_or xs i 0 ≤ get_or xs j 0
 rises_by_place xs h i j le l = elim (cases_lt i j) [
@@ -129,51 +131,28 @@ rises_by_place xs h i j le l = elim (cases_lt i j) [
   | inr ge ↦ let e : i ≡ j = omega arith in rw e (omega arith)
 ]
 
-pub with_searched : (xs : List ℕ) (x : ℕ) (r : Result ℕ ℕ) → IsFace xs → IsBinarySearchResult (λ y. nat_cmp y x) xs r → MatchResult r (λ i. with xs x ≡ xs) (λ at. Placed xs x at)
-with_searched xs x (Ok i) h s =
+but_by_cmp : (xs : List ℕ) (x : ℕ) → filter (λ y. not (eq_by_cmp nat_cmp y x)) xs ≡ without xs x
+but_by_cmp xs x = let same : (y : ℕ) → eq_by_cmp nat_cmp y x ≡ nat_eq y x = λ y. grind (arith, nat_tests) in ap (λ p. filter p xs) (λ i y. not (same y i))
+
+searched_for_label : (xs : List ℕ) (x : ℕ) (r : Result ℕ ℕ) → IsFace xs → IsBinarySearchResult (λ y. nat_cmp y x) xs r → MatchResult r (Found xs x) (Placed xs x)
+searched_for_label xs x (Ok i) h s =
     let t : (i < length xs) × (get_or xs i 0 ≡ x) = searched xs x (Ok i) s (rises_by_place xs h) in
     let r : Stands nat_cmp xs x i = searched_for nat_cmp_total equal_cmp xs x (Ok i) (above_tail nat_cmp 0 xs h.rising) t.0 s in
-    r.same
-with_searched xs x (Err at) h s =
+    record { inside = t.0; same = r.same; removed = r.removed ∙ but_by_cmp xs x }
+searched_for_label xs x (Err at) h s =
     let t : (at ≤ length xs) × ((k : ℕ) → k < at → get_or xs k 0 < x) × ((k : ℕ) → at ≤ k → k < length xs → x < get_or xs k 0) = searched xs x (Err at) s (rises_by_place xs h) in
     let r : Missing nat_cmp xs x at = searched_for nat_cmp_total equal_cmp xs x (Err at) (above_tail nat_cmp 0 xs h.rising) t.0 s in
-    let e : with xs x ≡ take at xs ++ x ∷ drop at xs = sym r.inserted in
-    record {
-      few = t.0;
-      more = omega (arith, ap length e, length-append (take at xs) (x ∷ drop at xs), length-take at xs, length-drop at xs, t.0);
-      is = append_assoc (take at xs) (x ∷ []) (drop at xs) ∙ sym e;
-    }
+    record { few = t.0; more = omega (arith, sym (ap length r.inserted), length-insert xs at x t.0); inserted = r.inserted; same = sym (but_by_cmp xs x) ∙ r.same }
+
+-- what a search over the labels of a face says, ys being the slice that shows them
+pub label_searched : (xs ys : List ℕ) (x : ℕ) (r : Result ℕ ℕ) → ys ≡ xs → IsFace xs → IsBinarySearchResult (λ y. nat_cmp y x) ys r → MatchResult r (Found xs x) (Placed xs x)
+label_searched xs ys x r e h s = let P : List ℕ → Type 0 = λ zs. IsBinarySearchResult (λ y. nat_cmp y x) zs r in searched_for_label xs x r h (subst P e s)
+
+pub face_insert : (xs : List ℕ) (x at : ℕ) → IsFace xs → Placed xs x at → 0 < x → length xs < 8 → IsFace (insert xs at x)
+face_insert xs x at h p pos few = face_same (with xs x) (insert xs at x) (sym p.inserted) (face_put x xs h pos (omega (arith, p.more)))
 
 pub face_positive : (xs : List ℕ) (i : ℕ) → IsFace xs → i < length xs → 0 < get_or xs i 0
 face_positive xs i h l = less_cmp _ _ (Less-from_sorted nat_cmp (0 ∷ xs) 0 (suc i) 0 h.rising (omega arith) (omega arith))
-
--- the parts that a label in its place is made of
-pub record Built (xs ys : List ℕ) (x at : ℕ) : Type 0 where
-  pub first : IsFace ([] ++ take at ys)
-  pub second : IsFace (([] ++ take at ys) ++ x ∷ [])
-  pub whole : IsFace ((([] ++ take at ys) ++ x ∷ []) ++ take (length ys - at) (drop at ys))
-  pub few : length (with xs x) ≤ 8
-  pub is : (([] ++ take at ys) ++ x ∷ []) ++ take (length ys - at) (drop at ys) ≡ with xs x
-
-pub with_none : (xs ys : List ℕ) (x at : ℕ) → ys ≡ xs → IsFace xs → IsBinarySearchResult (λ y. nat_cmp y x) ys (Err at) → length (with xs x) ≡ length ys + 1
-with_none xs ys x at e h s = let P : List ℕ → Type 0 = λ zs. length (with zs x) ≡ length ys + 1 in subst P e (with_searched ys x (Err at) (face_same xs ys (sym e) h) s).more
-
-pub with_built : (xs ys : List ℕ) (x at : ℕ) → ys ≡ xs → IsFace xs → IsBinarySearchResult (λ y. nat_cmp y x) ys (Err at) → 0 < x → length ys ≢ 8 → Built xs ys x at
-with_built xs ys x at e h s pos few =
-    let g : IsFace ys = face_same xs ys (sym e) h in
-    let p : Placed ys x at = with_searched ys x (Err at) g s in
-    let n : length (with ys x) ≤ 8 = omega (arith, p.more, g.few) in
-    let f : IsFace ((take at ys ++ x ∷ []) ++ drop at ys) = face_same (with ys x) _ (sym p.is) (face_put x ys g pos n) in
-    record {
-      first = face_take at ys g;
-      second = face_front (take at ys ++ x ∷ []) (drop at ys) f;
-      whole = rw (tail_is ys at) f;
-      few = let P : List ℕ → Type 0 = λ zs. length (with zs x) ≤ 8 in subst P e n;
-      is = rw (tail_is ys at) (p.is ∙ ap (λ zs. with zs x) e);
-    }
-
-pub with_found : (xs ys : List ℕ) (x i : ℕ) → ys ≡ xs → IsFace xs → IsBinarySearchResult (λ y. nat_cmp y x) ys (Ok i) → with xs x ≡ xs
-with_found xs ys x i e h s = let P : List ℕ → Type 0 = λ zs. with zs x ≡ zs in subst P e (with_searched ys x (Ok i) (face_same xs ys (sym e) h) s)
 
 pub rising_last : (xs : List ℕ) (x : ℕ) → IsRising (xs ++ x ∷ []) → last 0 xs < x
 rising_last xs x s = less_cmp (last 0 xs) x (last_below nat_cmp 0 xs x s)
@@ -182,11 +161,6 @@ pub drop_next : (xs : List ℕ) (i d : ℕ) → i < length xs → drop i xs ≡ 
 drop_next [] i d h = absurd (omega (arith, h))
 drop_next (x ∷ xs) zero d h = refl
 drop_next (x ∷ xs) (suc i) d h = let e : suc i + 1 ≡ suc (i + 1) = omega arith in rw e (drop_next xs i d (omega arith))
-
-pub without_next : (xs : List ℕ) (x i : ℕ) → i < length xs → get_or xs i 0 ≢ x → without (drop i xs) x ≡ get_or xs i 0 ∷ without (drop (i + 1) xs) x
-without_next xs x i h n =
-    let t : nat_eq (get_or xs i 0) x ≡ false = grind (arith, nat_tests) in
-    ap (λ ys. without ys x) (drop_next xs i 0 h) ∙ ap (λ b. cond (not b) (get_or xs i 0 ∷ without (drop (i + 1) xs) x) (without (drop (i + 1) xs) x)) t
 
 -- a union that is too long already
 pub union_long : (xs ys all : List ℕ) (i : ℕ) → union xs ys ≡ union all (drop i ys) → i < length ys → length (union xs ys) ≤ 8 → length (with all (get_or ys i 0)) ≤ 8

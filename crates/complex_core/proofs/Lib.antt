@@ -14,3 +14,6 @@ pub mod Renaming
 pub mod LinkFaces
 pub mod SubsetLists
 pub mod Combinations
+pub mod Packs
+pub mod Zeros
+pub mod Edits

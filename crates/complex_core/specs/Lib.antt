@@ -3,6 +3,8 @@ pub mod Rising
 pub mod Labels
 pub mod FaceFaults
 pub mod Padding
+pub mod Packed
+pub mod Packing
 pub mod Spaces
 pub mod ComplexFaults
 pub mod Maps

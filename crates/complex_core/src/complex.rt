@@ -58,7 +58,7 @@ fn all_labels(alloc: Global, facets: &[Face]) -> Result<Vec<u16>, AllocError>
 {
     let mut all = Vec::new(alloc);
     for facet in facets {
-        all.extend_from_slice(facet.labels())?;
+        all.extend_from_slice(&facet.labels())?;
     }
     Ok(all)
 }

@@ -1,42 +1,44 @@
 // Faces: small sets of labels.
-ghost use Rattle.std.specs.Prelude.{◌≡◌, ℕ, ◌+◌, ◌≤◌, ◌<◌, ◌↔◌, List, [], ◌∷◌, ◌++◌, length, Some, IfSome, IfNone, IfOk, OnOk, IfErr, IsTrue, nat_eq, refl, ◌==◌, slice_index};
+ghost use Rattle.std.specs.Prelude.{◌≡◌, ℕ, ◌+◌, ◌≤◌, ◌<◌, ◌↔◌, List, [], ◌∷◌, ◌++◌, length, Some, IfSome, IfNone, IfOk, OnOk, IfErr, IsTrue, nat_eq, refl, ◌==◌, slice_index, take, drop, ◌-◌};
 ghost use Rattle.std.specs.Option.{SomeIff};
 ghost use Rattle.std.specs.Ordering.{nat_cmp};
 ghost use Rattle.std.specs.Cmp.{on_po, partial_equiv_from_equiv};
 ghost use Rattle.std.specs.Cmp.Lexicographic.{pointwise, slice_cmp, nat_list_eq_equiv, nat_list_cmp_total, texts_po, texts_ties};
-ghost use Rattle.std.specs.Cmp.Rules.{hashing};
 ghost use Rattle.std.specs.Hash as fed;
-ghost use Rattle.std.proofs.Common.{rules};
-ghost use Rattle.complex_core.specs.Labels.{IsFace, has, holds, with, without, union};
+ghost use Rattle.std.specs.List.{insert, remove};
+ghost use Rattle.complex_core.specs.Labels.{IsFace, padded, has, holds, with, without, union};
+ghost use Rattle.complex_core.specs.Packed.{pack};
 ghost use Rattle.complex_core.specs.Links.{less};
 ghost use Rattle.complex_core.specs.FaceFaults.{FaceRefused};
 
+use crate::Labels;
 use std::cmp::Ordering;
 use std::hash::{Hash, Hasher};
 use std::marker::Model;
 
-/// A set of up to eight labels from 1, in 18 bytes. Faces are compared label by label, and a
-/// proper prefix is less.
+/// A set of up to eight labels from 1, in one number of 16 bytes. Faces are compared label by
+/// label, and a proper prefix is less.
 #[derive(Clone, Copy)]
 pub struct Face {
-    places: [u16; 8],
-    count: u16,
+    // The label at place k, from 0, stands in the bits from 112 - 16k on, and zeros behind the
+    // last one. So the order of faces is that of their numbers.
+    bits: u128,
 }
 
 impl Model for Face {
-    ghost use Rattle.std.specs.Prelude.{◌≡◌, ◌≤◌, List, ℕ, length, take};
-    ghost use Rattle.complex_core.specs.Labels.{IsFace, padded};
-    ghost use Rattle.complex_core.specs.Padding.{padded_back, length_back};
+    ghost use Rattle.std.specs.Prelude.{List, ℕ};
+    ghost use Rattle.complex_core.specs.Packed.{pack, unpack, IsPacked};
+    ghost use Rattle.complex_core.specs.Packing.{bits_back};
 
     ghost Value = { List ℕ };
 
-    ghost view = { λ f. take f.count f.places };
+    ghost view = { λ f. unpack 8 f.bits };
 
-    ghost invariant = { λ f. (f.count ≤ 8) × (f.places ≡ padded (take f.count f.places)) × IsFace (take f.count f.places) };
+    ghost invariant = { λ f. IsPacked f.bits };
 
-    ghost inverse = { λ xs. record { places = padded xs; count = length xs } };
+    ghost inverse = { λ xs. record { bits = pack 8 xs } };
 
-    ghost inverse_ok = { λ f h i. record { places = padded_back f.count f.places h.1 i; count = length_back f.count f.places h.0 h.1 i } };
+    ghost inverse_ok = { λ f h i. record { bits = bits_back f.bits h i } };
 }
 
 /// Why a list of labels is no face.
@@ -74,14 +76,10 @@ impl Face {
     }
 
     /// The face without labels, which is in every face.
-    #[tactic(auto, using(crate::proofs::Faces::none_is_face))]
     pub fn new() -> Face
         ensures { result ≡ [] }
     {
-        Face {
-            places: [0; 8],
-            count: 0,
-        }
+        Face { bits: 0 }
     }
 
     // Adds a label behind the others.
@@ -89,8 +87,8 @@ impl Face {
         requires { IsFace (self.old ++ label ∷ []) }
         ensures { self.new ≡ self.old ++ label ∷ [] }
     {
-        self.places[self.count as usize] = label;
-        self.count += 1;
+        let shift = 112 - 16 * self.len();
+        self.bits += (label as u128) << shift;
     }
 
     // Adds labels behind the others.
@@ -108,48 +106,113 @@ impl Face {
         ensures len { result ≡ length self.now }
         ensures face { IsFace self.now }
     {
-        self.count as usize
+        8 - self.bits.trailing_zeros() as usize / 16
     }
 
     /// Whether there is no label.
     pub fn is_empty(&self) -> bool
         ensures { result ≡ (length self.now == 0) }
     {
-        self.count == 0
+        self.bits == 0
     }
 
     /// Whether it has this label.
     pub fn contains(&self, label: u16) -> bool
         ensures { result ≡ has self.now label }
     {
-        self.labels().contains(&label)
+        let places = self.padded();
+        label != 0 && places.contains(&label)
     }
 
     /// Whether each label of the other face is in it.
     pub fn holds(&self, other: &Face) -> bool
         ensures { result ≡ holds self.now other.now }
     {
-        let wanted = other.labels();
-        let mut found = 0;
-        for label in self.labels() {
-            if found == wanted.len() {
-                return true;
-            }
-            if wanted[found] < *label {
+        for place in 0..other.len() {
+            if !self.contains(other.label(place)) {
                 return false;
             }
-            if wanted[found] == *label {
-                found += 1;
-            }
         }
-        found == wanted.len()
+        true
+    }
+
+    /// The label at this place, from 0.
+    pub fn label(&self, place: usize) -> u16
+        requires { place < length self.now }
+        ensures { result ≡ slice_index self.now place }
+    {
+        ((self.bits >> (112 - 16 * place)) % 65536) as u16
+    }
+
+    // The labels, and zeros behind them.
+    fn padded(&self) -> [u16; 8]
+        ensures places { result ≡ padded self.now }
+        ensures face { IsFace self.now }
+    {
+        [
+            (self.bits >> 112) as u16,
+            ((self.bits >> 96) % 65536) as u16,
+            ((self.bits >> 80) % 65536) as u16,
+            ((self.bits >> 64) % 65536) as u16,
+            ((self.bits >> 48) % 65536) as u16,
+            ((self.bits >> 32) % 65536) as u16,
+            ((self.bits >> 16) % 65536) as u16,
+            (self.bits % 65536) as u16,
+        ]
     }
 
     // The least label, or 0 where there is none.
     pub(crate) fn first(&self) -> u16
         ensures { result ≡ slice_index self.now 0 }
     {
-        self.places[0]
+        (self.bits >> 112) as u16
+    }
+
+    // The number with zeros from this place on.
+    fn front(&self, place: usize) -> u128
+        requires room { place ≤ 7 }
+        requires inside { place ≤ length self.now }
+        ensures { result ≡ pack 8 (take place self.now) }
+    {
+        let shift = 112 - 16 * place;
+        self.bits >> shift >> 16 << 16 << shift
+    }
+
+    // The number with zeros up to this place.
+    fn behind(&self, place: usize) -> u128
+        requires { place < length self.now }
+        ensures { result ≡ pack (7 - place) (drop (place + 1) self.now) }
+    {
+        let bits = self.bits;
+        let shift = 112 - 16 * place;
+        bits - (bits >> shift << shift)
+    }
+
+    // A label at this place, and those from there on behind it.
+    fn insert(&self, place: usize, label: u16) -> Face
+        requires place { place ≤ length self.now }
+        requires face { IsFace (insert self.now place label) }
+        ensures { result ≡ insert self.now place label }
+    {
+        let front = self.front(place);
+        let behind = (self.bits - front) >> 16;
+        let next = (label as u128) << (112 - 16 * place);
+        Face {
+            bits: front + next + behind,
+        }
+    }
+
+    // All labels but the one at this place.
+    fn remove(&self, place: usize) -> Face
+        requires inside { place < length self.now }
+        requires face { IsFace (remove self.now place) }
+        ensures { result ≡ remove self.now place }
+    {
+        // There are at most eight labels: the invariant says so.
+        let _ = &self.bits;
+        Face {
+            bits: self.front(place) + (self.behind(place) << 16),
+        }
     }
 
     /// The label added: the same face where it is there. `None` exactly where the label is 0, or
@@ -160,19 +223,10 @@ impl Face {
         if label == 0 {
             return None;
         }
-        let labels = self.labels();
-        match labels.binary_search(&label) {
+        match self.labels().binary_search(&label) {
             Ok(_) => Some(*self),
-            Err(at) => {
-                if labels.len() == 8 {
-                    return None;
-                }
-                let mut all = Face::new();
-                all.extend(&labels[..at]);
-                all.push(label);
-                all.extend(&labels[at..]);
-                Some(all)
-            }
+            Err(_) if self.len() == 8 => None,
+            Err(place) => Some(self.insert(place, label)),
         }
     }
 
@@ -180,14 +234,10 @@ impl Face {
     pub fn without(&self, label: u16) -> Face
         ensures { result ≡ without self.now label }
     {
-        let mut all = Face::new();
-        let labels = self.labels();
-        for other in labels {
-            if *other != label {
-                all.push(*other);
-            }
+        match self.labels().binary_search(&label) {
+            Ok(place) => self.remove(place),
+            Err(_) => *self,
         }
-        all
     }
 
     /// The labels of both. `None` exactly where these are more than eight.
@@ -195,10 +245,9 @@ impl Face {
         ensures { SomeIff result (length (union self.now other.now) ≤ 8) (union self.now other.now) }
     {
         let mut all = *self;
-        let _ = &self.count;
-        let labels = other.labels();
-        for label in labels {
-            match all.with(*label) {
+        let _ = &self.bits;
+        for place in 0..other.len() {
+            match all.with(other.label(place)) {
                 Some(more) => all = more,
                 None => return None,
             }
@@ -211,18 +260,18 @@ impl Face {
         ensures { result ≡ less self.now other.now }
     {
         let mut all = *self;
-        for label in other.labels() {
-            all = all.without(*label);
+        for place in 0..other.len() {
+            all = all.without(other.label(place));
         }
         all
     }
 
     /// The labels, rising.
-    pub fn labels(&self) -> &[u16]
-        ensures labels { result.now ≡ self.now }
+    pub fn labels(&self) -> Labels
+        ensures labels { result ≡ self.now }
         ensures face { IsFace self.now }
     {
-        &self.places[..self.count as usize]
+        Labels::new(self.padded(), self.len())
     }
 }
 
@@ -232,7 +281,7 @@ impl PartialEq for Face {
     ghost laws = { partial_equiv_from_equiv nat_list_eq_equiv };
 
     fn eq(&self, other: &Self) -> bool {
-        self.labels() == other.labels()
+        self.bits == other.bits
     }
 }
 
@@ -260,17 +309,20 @@ impl Ord for Face {
     ghost matches_eq = { λ s t. texts_ties s t };
 
     fn cmp(&self, other: &Self) -> Ordering {
-        self.labels().cmp(other.labels())
+        self.bits.cmp(&other.bits)
     }
 }
 
 impl Hash for Face {
-    ghost hash_input = { fed.slice fed.u16 };
+    ghost use Rattle.complex_core.specs.Packed.{pack};
+    ghost use Rattle.complex_core.specs.Packing.{same_input};
 
-    ghost respects_eq = { Prim.search (hashing, rules) };
+    ghost hash_input = { λ xs. fed.u128 (pack 8 xs) };
+
+    ghost respects_eq = { same_input };
 
     fn hash<H: Hasher>(&self, state: &mut H) {
-        self.labels().hash(state);
+        self.bits.hash(state);
     }
 }
 

@@ -4,6 +4,7 @@
 
 mod complex;
 mod face;
+mod labels;
 mod link;
 mod map;
 mod relabel;
@@ -11,4 +12,5 @@ mod subset;
 
 pub use complex::{Complex, ComplexFault, put_all_in, take_all_out};
 pub use face::{Face, FaceFault};
+pub use labels::Labels;
 pub use map::{MapFault, VertexMap};

@@ -52,7 +52,7 @@ fn image_of(map: &VertexMap, face: &Face) -> Option<Face>
     ensures { SomeIff result (list_all (takes map.now) face.now ≡ true) (face_image map.now face.now) }
 {
     let mut image = Face::new();
-    for label in face.labels() {
+    for label in face.labels().as_slice() {
         image = image.with(map.get(*label)?)?;
     }
     Some(image)

@@ -40,7 +40,7 @@ fn put_facets(out: &mut Vec<u8>, facets: &[Face]) -> Result<(), AllocError>
     out.push(b'[')?;
     for (i, facet) in facets.iter().enumerate() {
         put_comma(out, i)?;
-        put_facet(out, facet.labels())?;
+        put_facet(out, &facet.labels())?;
     }
     out.push(b']')?;
     Ok(())

@@ -18,7 +18,7 @@ fn named_side(side: &Face, names: &VertexMap) -> Option<Face>
     ensures face { IsFace side.now }
 {
     let mut image = Face::new();
-    for label in side.labels() {
+    for label in side.labels().as_slice() {
         image = image.with(names.get(*label)?)?;
     }
     Some(image)

@@ -28,7 +28,8 @@ pub(crate) fn near<'a>(stars: &'a StarMap, set: &Face) -> &'a [Face]
         over result.now set.now ≡ over k.facets set.now }
     ensures rising { IsStrictlySortedBy face_cmp result.now }
 {
-    let Some((first, others)) = set.labels().split_first() else {
+    let labels = set.labels();
+    let Some((first, others)) = labels.split_first() else {
         return &[];
     };
     let mut least = rows_of(stars, *first);
@@ -48,7 +49,7 @@ pub(crate) fn labels_over(rows: &[Face], set: &Face, most: usize) -> Option<Face
     ensures labels { MatchOption result (TooMany rows.now set.now most) (IsJoin rows.now set.now) }
 {
     let mut all = *set;
-    let _labels = set.labels();
+    let _labels = set.len();
     for row in rows {
         if row.holds(set) {
             match all.union(row) {

@@ -89,7 +89,7 @@ fn refresh_partners(table: &mut Table, stars: &StarMap, other: &Face) -> Result<
     requires some { 2 ≤ length other.now }
     ensures { OnOk result (Refreshed stars.now table.old table.new (λ k a. IsLinked k a other.now)) }
 {
-    let rest = other.without(other.labels()[0]);
+    let rest = other.without(other.label(0));
     for facet in near(stars, &rest) {
         if facet.holds(&rest) {
             refresh(table, stars, &facet.less(other))?;

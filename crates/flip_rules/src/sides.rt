@@ -52,7 +52,7 @@ impl Sides {
         }
         Sides {
             all,
-            count: labels.len(),
+            count: second.len(),
         }
     }
 

@@ -36,8 +36,8 @@ pub(crate) fn stray_label(places: usize, flip: &Flip) -> Option<u16>
     ensures { MatchOption result (EachLabel (λ p. nat_le p places) flip.now) (IsLeastFailing (λ p. nat_le p places) flip.now) }
 {
     lesser(
-        first_stray(places, flip.a.labels()),
-        first_stray(places, flip.b.labels()),
+        first_stray(places, &flip.a.labels()),
+        first_stray(places, &flip.b.labels()),
     )
 }
 
@@ -63,8 +63,8 @@ pub(crate) fn unowned_label(owners: &[u16], worker: u16, flip: &Flip) -> Option<
     ensures { MatchOption result (EachLabel (λ p. nat_eq (get_or owners.now p 0) worker) flip.now) (IsLeastFailing (λ p. nat_eq (get_or owners.now p 0) worker) flip.now) }
 {
     lesser(
-        first_unowned(owners, worker, flip.a.labels()),
-        first_unowned(owners, worker, flip.b.labels()),
+        first_unowned(owners, worker, &flip.a.labels()),
+        first_unowned(owners, worker, &flip.b.labels()),
     )
 }
 

@@ -260,8 +260,8 @@ impl World {
         ensures refused { IfErr result (FlipAnswer self.old worker flip.now) }
         ensures unchanged { OnErr result (self.new ≡ self.old) }
     {
-        let _first = flip.a.labels();
-        let _second = flip.b.labels();
+        let _first = flip.a.len();
+        let _second = flip.b.len();
         self.may_flip(worker, flip)?;
         self.drafts[worker as usize - 1].push(flip)?;
         Ok(Told::Flipped)

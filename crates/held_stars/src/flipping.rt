@@ -80,7 +80,7 @@ pub fn make_flip(
     let Some(labels) = flip.a.union(&flip.b) else {
         unreachable!()
     };
-    lend(board, pass, &mut hold.near, alloc, dim, labels.labels());
+    lend(board, pass, &mut hold.near, alloc, dim, &labels.labels());
     let made = flip_near(alloc, &mut hold.near, &mut hold.copies, flip);
     give_back(board, pass, &mut hold.near);
     match made {

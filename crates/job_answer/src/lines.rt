@@ -77,7 +77,7 @@ pub fn ridge_line(alloc: Global, ridge: Ridge) -> Result<String, AllocError>
     ensures { IfOk result (λ t. string_bytes t ≡ ridge_line ridge.face ridge.count) }
 {
     let mut text = String::from_str(alloc, "closed no ridge")?;
-    write_set_off(&mut text, ridge.face.labels())?;
+    write_set_off(&mut text, &ridge.face.labels())?;
     let count = ridge.count;
     write!(text, " in {count}\n")?;
     Ok(text)
@@ -88,9 +88,9 @@ pub fn apart_line(alloc: Global, apart: Apart) -> Result<String, AllocError>
     ensures { IfOk result (λ t. string_bytes t ≡ apart_line apart.first apart.other) }
 {
     let mut text = String::from_str(alloc, "strong no")?;
-    write_set_off(&mut text, apart.first.labels())?;
+    write_set_off(&mut text, &apart.first.labels())?;
     text.push_str(" |")?;
-    write_set_off(&mut text, apart.other.labels())?;
+    write_set_off(&mut text, &apart.other.labels())?;
     text.push('\n')?;
     Ok(text)
 }

@@ -55,7 +55,7 @@ fn image_of(map: &VertexMap, side: &Face) -> Option<Face>
     ensures { SomeIff result (list_all (takes map.now) side.now ≡ true) (face_image map.now side.now) }
 {
     let mut image = Face::new();
-    for label in side.labels() {
+    for label in side.labels().as_slice() {
         image = image.with(map.get(*label)?)?;
     }
     Some(image)
@@ -82,8 +82,8 @@ fn placed_flip(places: &VertexMap, flip: &Flip) -> Flip
 {
     let a = placed_side(places, &flip.a);
     let b = placed_side(places, &flip.b);
-    let _first = a.labels();
-    let _second = b.labels();
+    let _first = a.len();
+    let _second = b.len();
     Flip { a, b }
 }
 

@@ -98,8 +98,8 @@ fn write_named_flip(
 ) -> Result<(), AllocError>
     ensures { OnOk result (string_bytes text.new ≡ string_bytes text.old ++ flip_line (named_flip names.now flip.now)) }
 {
-    let first = numbers_at(alloc, names, flip.a.labels())?;
-    let second = numbers_at(alloc, names, flip.b.labels())?;
+    let first = numbers_at(alloc, names, &flip.a.labels())?;
+    let second = numbers_at(alloc, names, &flip.b.labels())?;
     write_sides_line(text, &first, &second)
 }
 

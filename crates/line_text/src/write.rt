@@ -42,9 +42,9 @@ fn put_flip(flip: &Flip, out: &mut Vec<u8>) -> Result<(), AllocError>
     ensures ok { OnOk result (out.new.items ≡ out.old.items ++ flip_text flip.now) }
     ensures err { OnErr result (OnlyAdds out.old.items out.new.items) }
 {
-    put_first(flip.a.labels(), out)?;
+    put_first(&flip.a.labels(), out)?;
     out.push(b'|')?;
-    put_second(flip.b.labels(), out)
+    put_second(&flip.b.labels(), out)
 }
 
 /// Adds labels, with a space after each.

@@ -53,7 +53,7 @@ pub(crate) fn signs_from(
     let mut next = 0;
     while next < reached.len() {
         let facet = reached[next].facet;
-        for label in facet.labels() {
+        for label in facet.labels().as_slice() {
             match cross(complex, sides, *label, next, &mut places, &mut reached)? {
                 Some(place) => {
                     return Ok(Spread::Clash(closed_chain(alloc, &reached, next, place)?));

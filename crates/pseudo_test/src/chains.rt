@@ -37,7 +37,7 @@ pub fn strong(alloc: Global, complex: &Complex) -> Result<Option<Apart>, AllocEr
     let mut next = 0;
     while next < reached.len() {
         let facet = reached[next];
-        for label in facet.labels() {
+        for label in facet.labels().as_slice() {
             let ridge = facet.without(*label);
             spread(&sides, ridge, &mut seen, &mut rest, &mut reached)?;
         }

@@ -38,7 +38,7 @@ pub fn over<'a>(sides: &'a [(Face, u16)], ridge: &Face) -> &'a [(Face, u16)]
 fn add_sides(all: &mut Vec<(Face, u16)>, facet: &Face) -> Result<(), AllocError>
     ensures { OnOk result (all.new.items ≡ all.old.items ++ sides_of facet.now) }
 {
-    for label in facet.labels() {
+    for label in facet.labels().as_slice() {
         all.push((facet.without(*label), *label))?;
     }
     Ok(())

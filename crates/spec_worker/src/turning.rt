@@ -94,7 +94,7 @@ fn take_turn<G: Gate>(
     let Some(labels) = flip.a.union(&flip.b) else {
         unreachable!()
     };
-    match claim_labels(board, pass, hold, gate, labels.labels()) {
+    match claim_labels(board, pass, hold, gate, &labels.labels()) {
         Ok(()) => {}
         Err(Stopped::Busy { place, owner }) => return Err(Tried::Busy { place, owner }),
         Err(Stopped::Quit) => return Err(Tried::Quit),
@@ -148,7 +148,7 @@ fn change_of(dim: u32, flip: &Flip) -> i32
     ensures change { result ≡ change dim flip.now }
     ensures bounds { (negsuc 15 ≤ℤ result) × (result ≤ℤ pos 6) }
 {
-    let labels = flip.b.labels().len() as u32;
+    let labels = flip.b.len() as u32;
     dim as i32 - (2 * labels.saturating_sub(1)) as i32
 }
 

@@ -43,7 +43,7 @@ pub(crate) fn add_facet(stars: &mut Vec<Star>, facet: &Face) -> Result<(), Alloc
     requires { CanAdd stars.old.items facet.now }
     ensures { OnOk result (stars.new.items ≡ with_rows facet.now facet.now stars.old.items) }
 {
-    for label in facet.labels() {
+    for label in facet.labels().as_slice() {
         stars[*label as usize - 1].push(facet)?;
     }
     Ok(())

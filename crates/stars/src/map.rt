@@ -130,8 +130,8 @@ impl StarMap {
         ensures faces { OfFaces flip.now }
     {
         // They are labels of faces, and so from 1.
-        let _first = flip.a.labels();
-        let _second = flip.b.labels();
+        let _first = flip.a.len();
+        let _second = flip.b.len();
         local_check(&self.stars, flip)
     }
 
@@ -155,8 +155,8 @@ impl StarMap {
         ensures faces { OfFaces flip.now }
     {
         // They are labels of faces, and so from 1.
-        let _first = flip.a.labels();
-        let _second = flip.b.labels();
+        let _first = flip.a.len();
+        let _second = flip.b.len();
         flip_here(&mut self.stars, flip)
     }
 }

@@ -34,17 +34,17 @@ impl<'a> Over<'a> {
 }
 
 impl<'a> Iterator for Over<'a> {
-    type Item = &'a [u16];
+    type Item = &'a Face;
 
     ghost next_gives = { YieldsFirstRef (λ left. left) };
 
     ghost remaining = { item_count (λ left. left) };
 
-    fn next(&mut self) -> Option<&'a [u16]> {
+    fn next(&mut self) -> Option<&'a Face> {
         while let Some((row, rows)) = self.rows.split_first() {
             self.rows = rows;
             if row.holds(&self.face) {
-                return Some(row.labels());
+                return Some(row);
             }
         }
         None

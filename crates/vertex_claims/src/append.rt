@@ -64,7 +64,7 @@ pub(crate) fn know_faces(flips: &[Flip])
     ensures { AllByRecursion OfFaces flips.now }
 {
     for flip in flips {
-        let _first = flip.a.labels();
-        let _second = flip.b.labels();
+        let _first = flip.a.len();
+        let _second = flip.b.len();
     }
 }

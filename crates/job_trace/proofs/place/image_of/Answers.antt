@@ -1,4 +1,4 @@
-use Rattle.std.proofs.Common.{◌≡◌, ◌<◌, Option, List, ℕ, get_or, true, sym, subst}
+use Rattle.std.proofs.Common.{◌≡◌, ◌<◌, Option, List, ℕ, get_or, true, sym, subst, ◌∙◌}
 use Rattle.std.specs.List.{list_all}
 use Rattle.std.specs.Option.{SomeIff}
 use Rattle.complex_core.specs.Maps.{takes, face_image}
@@ -8,16 +8,16 @@ use Rattle.job_trace.proofs.place.image_of.Goals as goal
 pub returns-in_err-get : goal.returns-in_err-get
 returns-in_err-get c =
     let P : Option (List ℕ) → Type 0 = λ r. SomeIff r (list_all (takes c.args.map.now) c.args.side.now ≡ true) (face_image c.args.map.now c.args.side.now) in
-    subst P (sym c.from_residual.ensures) (λ all. c.in_err-get.ensures.get (label_taken c.args.map.now c.labels-label-items.result.now c.args.side.now c.loop-label.label-index c.labels-label-items.ensures.labels c.loop-label-test.true all))
+    subst P (sym c.from_residual.ensures) (λ all. c.in_err-get.ensures.get (label_taken c.args.map.now c.as_slice-label-items.result.now c.args.side.now c.loop-label.label-index (c.as_slice-label-items.ensures ∙ c.labels.ensures.labels) c.loop-label-test.true all))
 
 pub returns-in_err-image : goal.returns-in_err-image
 returns-in_err-image c =
     let P : Option (List ℕ) → Type 0 = λ r. SomeIff r (list_all (takes c.args.map.now) c.args.side.now ≡ true) (face_image c.args.map.now c.args.side.now) in
     let Q : ℕ → Type 0 = λ y. 0 < y in
     subst P (sym c.from_residual-in_err-image.ensures) (λ all. c.in_err-image.ensures (
-      subst Q (sym c.in_ok-get.ensures.get.1) (positive_at c.args.map.now (get_or c.labels-label-items.result.now c.loop-label.label-index 0) c.in_ok-get.ensures.map.positive c.in_ok-get.ensures.get.0),
-      image_fits c.args.map.now c.labels-label-items.result.now c.args.side.now c.loop-label.image c.loop-label.label-index c.in_ok-get.field-0 c.labels-label-items.ensures.labels c.labels-label-items.ensures.face c.loop-label-test.true c.loop-label.invariant.made,
+      subst Q (sym c.in_ok-get.ensures.get.1) (positive_at c.args.map.now (get_or c.as_slice-label-items.result.now c.loop-label.label-index 0) c.in_ok-get.ensures.map.positive c.in_ok-get.ensures.get.0),
+      image_fits c.args.map.now c.as_slice-label-items.result.now c.args.side.now c.loop-label.image c.loop-label.label-index c.in_ok-get.field-0 (c.as_slice-label-items.ensures ∙ c.labels.ensures.labels) c.labels.ensures.face c.loop-label-test.true c.loop-label.invariant.made,
     ))
 
 pub returns : goal.returns
-returns c = image_done _ _ _ _ _ c.labels-label-items.ensures.labels c.loop-label-test.false c.loop-label.invariant.made c.loop-label.invariant.taken
+returns c = image_done _ _ _ _ _ (c.as_slice-label-items.ensures ∙ c.labels.ensures.labels) c.loop-label-test.false c.loop-label.invariant.made c.loop-label.invariant.taken

@@ -15,22 +15,22 @@ loop-next-init c = record {
 }
 
 pub loop-label-init : goal.loop-label-init
-loop-label-init c = within_start c.args.complex.now c.index-facets-0.result c.index.result.now c.labels-label-items.result.now c.loop-next.reached.items c.loop-next.rest.keys (contains face_cmp c.loop-next.seen) c.loop-next.next c.loop-next.invariant.spread c.loop-next.invariant.done (omega (arith, c.loop-next-test.true, c.len.ensures)) c.index.ensures c.labels-label-items.ensures.labels
+loop-label-init c = within_start c.args.complex.now c.index-facets-0.result c.index.result.now c.as_slice-label-items.result.now c.loop-next.reached.items c.loop-next.rest.keys (contains face_cmp c.loop-next.seen) c.loop-next.next c.loop-next.invariant.spread c.loop-next.invariant.done (omega (arith, c.loop-next-test.true, c.len.ensures)) c.index.ensures (c.as_slice-label-items.ensures ∙ c.labels.ensures.labels)
 
 pub spread-requires-clause-faces : goal.spread-requires-clause-faces
 spread-requires-clause-faces c =
-    let x : ℕ = get_or c.labels-label-items.result.now c.loop-label.label-index 0 in
-    (within_faces c.args.complex.now c.index-facets-0.result c.loop-label.reached.items c.loop-label.rest.keys (contains face_cmp c.loop-label.seen) c.loop-next.next c.index.result.now c.labels-label-items.result.now c.without-ridge.result c.loop-label.label-index x c.in_ok-sides.sides.items c.deref.result.now c.facets-facets.ensures.complex c.loop-label.invariant c.loop-label-test.true (same_at c.labels-label-items.result.now c.loop-label.label-index 0 x c.loop-label-test.true) c.labels-label-items.ensures.labels c.without-ridge.ensures c.in_ok-sides.ensures.sides c.deref.ensures.value).1
+    let x : ℕ = get_or c.as_slice-label-items.result.now c.loop-label.label-index 0 in
+    (within_faces c.args.complex.now c.index-facets-0.result c.loop-label.reached.items c.loop-label.rest.keys (contains face_cmp c.loop-label.seen) c.loop-next.next c.index.result.now c.as_slice-label-items.result.now c.without-ridge.result c.loop-label.label-index x c.in_ok-sides.sides.items c.deref.result.now c.facets-facets.ensures.complex c.loop-label.invariant c.loop-label-test.true (same_at c.as_slice-label-items.result.now c.loop-label.label-index 0 x c.loop-label-test.true) (c.as_slice-label-items.ensures ∙ c.labels.ensures.labels) c.without-ridge.ensures c.in_ok-sides.ensures.sides c.deref.ensures.value).1
 
 pub loop-label-preserved : goal.loop-label-preserved
 loop-label-preserved c =
-    let x : ℕ = get_or c.labels-label-items.result.now c.loop-label.label-index 0 in
-    within_next c.args.complex.now c.index-facets-0.result c.loop-label.reached.items c.loop-label.rest.keys c.spread.new.reached.items c.spread.new.rest.keys (contains face_cmp c.loop-label.seen) (contains face_cmp c.spread.new.seen) c.loop-next.next c.index.result.now c.labels-label-items.result.now c.without-ridge.result c.loop-label.label-index x c.in_ok-sides.sides.items c.deref.result.now c.facets-facets.ensures.complex c.loop-label.invariant c.loop-label-test.true (same_at c.labels-label-items.result.now c.loop-label.label-index 0 x c.loop-label-test.true) c.labels-label-items.ensures.labels c.without-ridge.ensures c.in_ok-sides.ensures.sides c.deref.ensures.value c.in_ok-spread.ensures.moved c.in_ok-spread.ensures.seen
+    let x : ℕ = get_or c.as_slice-label-items.result.now c.loop-label.label-index 0 in
+    within_next c.args.complex.now c.index-facets-0.result c.loop-label.reached.items c.loop-label.rest.keys c.spread.new.reached.items c.spread.new.rest.keys (contains face_cmp c.loop-label.seen) (contains face_cmp c.spread.new.seen) c.loop-next.next c.index.result.now c.as_slice-label-items.result.now c.without-ridge.result c.loop-label.label-index x c.in_ok-sides.sides.items c.deref.result.now c.facets-facets.ensures.complex c.loop-label.invariant c.loop-label-test.true (same_at c.as_slice-label-items.result.now c.loop-label.label-index 0 x c.loop-label-test.true) (c.as_slice-label-items.ensures ∙ c.labels.ensures.labels) c.without-ridge.ensures c.in_ok-sides.ensures.sides c.deref.ensures.value c.in_ok-spread.ensures.moved c.in_ok-spread.ensures.seen
 
 pub loop-next-preserved : goal.loop-next-preserved
 loop-next-preserved c = record {
   spread = c.loop-label.invariant.spread;
-  done = within_end c.args.complex.now c.index-facets-0.result c.loop-label.reached.items c.loop-label.rest.keys (contains face_cmp c.loop-label.seen) c.loop-next.next c.labels-label-items.result.now c.loop-label.label-index c.loop-label.invariant c.loop-label-test.false;
+  done = within_end c.args.complex.now c.index-facets-0.result c.loop-label.reached.items c.loop-label.rest.keys (contains face_cmp c.loop-label.seen) c.loop-next.next c.as_slice-label-items.result.now c.loop-label.label-index c.loop-label.invariant c.loop-label-test.false;
 }
 
 pub returns-in-Some : goal.returns-in-Some

@@ -21,48 +21,48 @@ unreachable-requires g c =
     c.in_default.ensures (union_few c.args.dim c.args.flip.now c.requires.dim (next_shape r.0 c.args.dim c.args.pass.now c.args.hold.now c.args.flip.now r.1 r.2))
 
 pub claim_labels-requires-clause-places : goal.claim_labels-requires-clause-places
-claim_labels-requires-clause-places g c = λ q t. c.requires.places q (touch_one q c.args.flip.now (sym (union_touches c.labels.result.now c.args.flip.now q (c.labels.ensures.labels ∙ c.in-Some.ensures.1)) ∙ t))
+claim_labels-requires-clause-places g c = λ q t. c.requires.places q (touch_one q c.args.flip.now (sym (union_touches c.deref.result.now c.args.flip.now q (c.deref.ensures ∙ c.labels.ensures.labels ∙ c.in-Some.ensures.1)) ∙ t))
 
 pub claim_labels-requires-clause-going : goal.claim_labels-requires-clause-going
 claim_labels-requires-clause-going g c =
     let r = c.requires.next in
-    (r.0, r.2.turned.now, r.2.turned.going, r.2.turned.made, all_among r.0 c.args.dim c.args.pass.now c.args.hold.now c.args.flip.now r.1 c.labels.result.now r.2 (c.labels.ensures.labels ∙ c.in-Some.ensures.1))
+    (r.0, r.2.turned.now, r.2.turned.going, r.2.turned.made, all_among r.0 c.args.dim c.args.pass.now c.args.hold.now c.args.flip.now r.1 c.deref.result.now r.2 (c.deref.ensures ∙ c.labels.ensures.labels ∙ c.in-Some.ensures.1))
 
 pub returns-in-Err-Busy-clause-ends : goal.returns-in-Err-Busy-clause-ends
 returns-in-Err-Busy-clause-ends g c = λ task s next is n.
     ended_busy task s c.claim_labels.new.pass c.claim_labels.new.hold _ _ _ _ _ c.in-Err-Busy.field-0-is c.in-Err-Busy.place-is c.in-Err-Busy.owner-is
-    (c.in-Err-Busy.ensures.ends s n.turned.now n.turned.going (all_among s c.args.dim c.args.pass.now c.args.hold.now c.args.flip.now next c.labels.result.now n (c.labels.ensures.labels ∙ c.in-Some.ensures.1)) n.turned.made)
+    (c.in-Err-Busy.ensures.ends s n.turned.now n.turned.going (all_among s c.args.dim c.args.pass.now c.args.hold.now c.args.flip.now next c.deref.result.now n (c.deref.ensures ∙ c.labels.ensures.labels ∙ c.in-Some.ensures.1)) n.turned.made)
 
 pub returns-in-Err-Quit-clause-ends : goal.returns-in-Err-Quit-clause-ends
 returns-in-Err-Quit-clause-ends g c = λ task s next is n.
     ended_claim_quit task s c.claim_labels.new.pass c.claim_labels.new.hold _ c.in-Err-Quit.field-0-is
-    (c.in-Err-Quit.ensures.ends s n.turned.now n.turned.going (all_among s c.args.dim c.args.pass.now c.args.hold.now c.args.flip.now next c.labels.result.now n (c.labels.ensures.labels ∙ c.in-Some.ensures.1)) n.turned.made)
+    (c.in-Err-Quit.ensures.ends s n.turned.now n.turned.going (all_among s c.args.dim c.args.pass.now c.args.hold.now c.args.flip.now next c.deref.result.now n (c.deref.ensures ∙ c.labels.ensures.labels ∙ c.in-Some.ensures.1)) n.turned.made)
 
 pub make_flip-requires-clause-made : goal.make_flip-requires-clause-made
 make_flip-requires-clause-made g c =
     let r = c.requires.next in
     let e = c.in-Ok.ensures in
-    let t = claimed r.0 c.args.dim c.args.pass.now c.claim_labels.new.pass c.args.hold.now c.claim_labels.new.hold c.args.flip.now r.1 c.labels.result.now r.2 (c.labels.ensures.labels ∙ c.in-Some.ensures.1) c.in-Some.ensures.0 e.hold.0 e.hold.3 e.held (e.going r.0) in
+    let t = claimed r.0 c.args.dim c.args.pass.now c.claim_labels.new.pass c.args.hold.now c.claim_labels.new.hold c.args.flip.now r.1 c.deref.result.now r.2 (c.deref.ensures ∙ c.labels.ensures.labels ∙ c.in-Some.ensures.1) c.in-Some.ensures.0 e.hold.0 e.hold.3 e.held (e.going r.0) in
     (t.now, t.made)
 
 pub make_flip-requires-clause-labels : goal.make_flip-requires-clause-labels
 make_flip-requires-clause-labels g c =
     let r = c.requires.next in
     let e = c.in-Ok.ensures in
-    (claimed r.0 c.args.dim c.args.pass.now c.claim_labels.new.pass c.args.hold.now c.claim_labels.new.hold c.args.flip.now r.1 c.labels.result.now r.2 (c.labels.ensures.labels ∙ c.in-Some.ensures.1) c.in-Some.ensures.0 e.hold.0 e.hold.3 e.held (e.going r.0)).labels
+    (claimed r.0 c.args.dim c.args.pass.now c.claim_labels.new.pass c.args.hold.now c.claim_labels.new.hold c.args.flip.now r.1 c.deref.result.now r.2 (c.deref.ensures ∙ c.labels.ensures.labels ∙ c.in-Some.ensures.1) c.in-Some.ensures.0 e.hold.0 e.hold.3 e.held (e.going r.0)).labels
 
 pub returns-in-Ok-make_flip-clause-turned : goal.returns-in-Ok-make_flip-clause-turned
 returns-in-Ok-make_flip-clause-turned g c = λ s next n.
     let e = c.in-Ok.ensures in
     let m = c.in-Ok-make_flip.ensures in
-    let t = claimed s c.args.dim c.args.pass.now c.claim_labels.new.pass c.args.hold.now c.claim_labels.new.hold c.args.flip.now next c.labels.result.now n (c.labels.ensures.labels ∙ c.in-Some.ensures.1) c.in-Some.ensures.0 e.hold.0 e.hold.3 e.held (e.going s) in
+    let t = claimed s c.args.dim c.args.pass.now c.claim_labels.new.pass c.args.hold.now c.claim_labels.new.hold c.args.flip.now next c.deref.result.now n (c.deref.ensures ∙ c.labels.ensures.labels ∙ c.in-Some.ensures.1) c.in-Some.ensures.0 e.hold.0 e.hold.3 e.held (e.going s) in
     ok_any c.ask.result (turned s c.claim_labels.new.pass c.make_flip.new.pass c.claim_labels.new.hold c.make_flip.new.hold c.args.flip.now next t m.known.0 (m.made t.now t.made) m.flips.0 m.places m.room.1)
 
 pub returns-in-Ok-make_flip-clause-ends : goal.returns-in-Ok-make_flip-clause-ends
 returns-in-Ok-make_flip-clause-ends g c = λ task s next is n.
     let e = c.in-Ok.ensures in
     let m = c.in-Ok-make_flip.ensures in
-    let t = claimed s c.args.dim c.args.pass.now c.claim_labels.new.pass c.args.hold.now c.claim_labels.new.hold c.args.flip.now next c.labels.result.now n (c.labels.ensures.labels ∙ c.in-Some.ensures.1) c.in-Some.ensures.0 e.hold.0 e.hold.3 e.held (e.going s) in
+    let t = claimed s c.args.dim c.args.pass.now c.claim_labels.new.pass c.args.hold.now c.claim_labels.new.hold c.args.flip.now next c.deref.result.now n (c.deref.ensures ∙ c.labels.ensures.labels ∙ c.in-Some.ensures.1) c.in-Some.ensures.0 e.hold.0 e.hold.3 e.held (e.going s) in
     let done = turned s c.claim_labels.new.pass c.make_flip.new.pass c.claim_labels.new.hold c.make_flip.new.hold c.args.flip.now next t m.known.0 (m.made t.now t.made) m.flips.0 m.places m.room.1 in
     err_quit _ _ c.ask.result c.ask.ensures.quit (λ a quits. ended_quit task s c.make_flip.new.pass c.make_flip.new.hold next a done quits)
 
@@ -70,14 +70,14 @@ pub returns-in-Err-Illegal-clause-ends : goal.returns-in-Err-Illegal-clause-ends
 returns-in-Err-Illegal-clause-ends g c = λ task s next is n.
     let e = c.in-Ok.ensures in
     let m = c.in-Err-Illegal.ensures in
-    let t = claimed s c.args.dim c.args.pass.now c.claim_labels.new.pass c.args.hold.now c.claim_labels.new.hold c.args.flip.now next c.labels.result.now n (c.labels.ensures.labels ∙ c.in-Some.ensures.1) c.in-Some.ensures.0 e.hold.0 e.hold.3 e.held (e.going s) in
+    let t = claimed s c.args.dim c.args.pass.now c.claim_labels.new.pass c.args.hold.now c.claim_labels.new.hold c.args.flip.now next c.deref.result.now n (c.deref.ensures ∙ c.labels.ensures.labels ∙ c.in-Some.ensures.1) c.in-Some.ensures.0 e.hold.0 e.hold.3 e.held (e.going s) in
     ended_blocked task s c.args.flip.now next c.claim_labels.new.pass c.make_flip.new.pass c.claim_labels.new.hold c.make_flip.new.hold _ _ t (n.dim_is ∙ sym is) m.known.0 c.in-Err-Illegal.field-0-is (m.why t.now t.made) (m.restorable t.now t.made)
 
 pub returns-in-Err-Memory-clause-ends : goal.returns-in-Err-Memory-clause-ends
 returns-in-Err-Memory-clause-ends g c = λ task s next is n.
     let e = c.in-Ok.ensures in
     let m = c.in-Err-Memory.ensures in
-    let t = claimed s c.args.dim c.args.pass.now c.claim_labels.new.pass c.args.hold.now c.claim_labels.new.hold c.args.flip.now next c.labels.result.now n (c.labels.ensures.labels ∙ c.in-Some.ensures.1) c.in-Some.ensures.0 e.hold.0 e.hold.3 e.held (e.going s) in
+    let t = claimed s c.args.dim c.args.pass.now c.claim_labels.new.pass c.args.hold.now c.claim_labels.new.hold c.args.flip.now next c.deref.result.now n (c.deref.ensures ∙ c.labels.ensures.labels ∙ c.in-Some.ensures.1) c.in-Some.ensures.0 e.hold.0 e.hold.3 e.held (e.going s) in
     ended_memory task s c.args.flip.now next c.claim_labels.new.pass c.make_flip.new.pass c.claim_labels.new.hold c.make_flip.new.hold _ t (n.dim_is ∙ sym is) m.known.0 c.in-Err-Memory.field-0-is (λ x broken. m.told t.now x t.made broken) (m.restorable t.now t.made)
 
 pub returns-in-Err-Busy-clause-heard : goal.returns-in-Err-Busy-clause-heard

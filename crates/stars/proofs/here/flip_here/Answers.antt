@@ -9,15 +9,15 @@ pub unreachable-requires : goal.unreachable-requires
 unreachable-requires c = c.in_default-union.ensures (union_fits c.requires.stars.0.dim c.args.flip.now.a c.args.flip.now.b (c.in_default.ensures.facets c.requires.stars.0 c.requires.stars.1))
 
 pub change_stars-requires : goal.change_stars-requires
-change_stars-requires c = can_change c.requires.stars.0 c.args.near.now c.args.flip.now c.labels.result.now c.as_slice-2.result.now c.requires.stars.1 c.requires.held (c.in_default.ensures.facets c.requires.stars.0 c.requires.stars.1) (face_same c.in-Some.labels c.labels.result.now (sym c.labels.ensures.labels) c.labels.ensures.face) (c.labels.ensures.labels ∙ c.in-Some.ensures.1) (c.as_slice-2.ensures ∙ c.of-more.ensures)
+change_stars-requires c = can_change c.requires.stars.0 c.args.near.now c.args.flip.now c.deref.result.now c.as_slice-2.result.now c.requires.stars.1 c.requires.held (c.in_default.ensures.facets c.requires.stars.0 c.requires.stars.1) (face_same c.in-Some.labels c.deref.result.now (sym (c.deref.ensures ∙ c.labels.ensures.labels)) c.labels.ensures.face) (c.deref.ensures ∙ c.labels.ensures.labels ∙ c.in-Some.ensures.1) (c.as_slice-2.ensures ∙ c.of-more.ensures)
 
 pub returns-in-Ok-clause-ok : goal.returns-in-Ok-clause-ok
 returns-in-Ok-clause-ok c =
-    made_flipped c.requires.stars.0 c.args.near.now c.change_stars.new.near c.args.flip.now.a c.args.flip.now.b c.labels.result.now c.as_slice.result.now c.as_slice-2.result.now c.requires.stars.1 (sym (c.in_default.ensures.why c.requires.stars.0 c.requires.stars.1)) c.in-Ok.ensures.ok (c.labels.ensures.labels ∙ c.in-Some.ensures.1) (c.as_slice.ensures ∙ c.of-out.ensures) (c.as_slice-2.ensures ∙ c.of-more.ensures)
+    made_flipped c.requires.stars.0 c.args.near.now c.change_stars.new.near c.args.flip.now.a c.args.flip.now.b c.deref.result.now c.as_slice.result.now c.as_slice-2.result.now c.requires.stars.1 (sym (c.in_default.ensures.why c.requires.stars.0 c.requires.stars.1)) c.in-Ok.ensures.ok (c.deref.ensures ∙ c.labels.ensures.labels ∙ c.in-Some.ensures.1) (c.as_slice.ensures ∙ c.of-out.ensures) (c.as_slice-2.ensures ∙ c.of-more.ensures)
 
 pub returns-in-Ok-clause-stars : goal.returns-in-Ok-clause-stars
 returns-in-Ok-clause-stars c = λ k h.
     let ok : why k c.args.flip.now.a c.args.flip.now.b ≡ Ok tt = sym (c.in_default.ensures.why k h) in
     let last : c.change_stars.new.near ≡ stars_flipped c.args.near.now c.args.flip.now.a c.args.flip.now.b =
-    made_flipped k c.args.near.now c.change_stars.new.near c.args.flip.now.a c.args.flip.now.b c.labels.result.now c.as_slice.result.now c.as_slice-2.result.now h ok c.in-Ok.ensures.ok (c.labels.ensures.labels ∙ c.in-Some.ensures.1) (c.as_slice.ensures ∙ c.of-out.ensures) (c.as_slice-2.ensures ∙ c.of-more.ensures) in
+    made_flipped k c.args.near.now c.change_stars.new.near c.args.flip.now.a c.args.flip.now.b c.deref.result.now c.as_slice.result.now c.as_slice-2.result.now h ok c.in-Ok.ensures.ok (c.deref.ensures ∙ c.labels.ensures.labels ∙ c.in-Some.ensures.1) (c.as_slice.ensures ∙ c.of-out.ensures) (c.as_slice-2.ensures ∙ c.of-more.ensures) in
     stars_of_last k c.args.near.now c.change_stars.new.near c.args.flip.now last c.local_check.ensures.faces ok h

@@ -26,12 +26,12 @@ pub extend-requires : goal.extend-requires
 extend-requires c =
     let came = coming_next (λ x y. y ≡ x) c.args.size c.args.self.now c.loop-labels.all.items c.loop-labels.labels-iterator c.next.new.self c.in-Some.labels c.in_ok-labels.labels c.in_ok-labels.was c.in-Some.ensures.steps c.loop-labels.invariant.coming in
     let face : IsFace c.in_ok-labels.labels.items = (subset_is c.args.size c.args.self.now c.in_ok-labels.labels.items c.labels.ensures.face came.there).face in
-    subst IsFace (sym ((λ i. c.new-subset.ensures i ++ c.deref.ensures.value i))) face
+    subst IsFace (sym ((λ i. c.new-subset.ensures i ++ c.deref-in-loop-labels.ensures.value i))) face
 
 pub loop-labels-preserved : goal.loop-labels-preserved
 loop-labels-preserved c =
     let came = coming_next (λ x y. y ≡ x) c.args.size c.args.self.now c.loop-labels.all.items c.loop-labels.labels-iterator c.next.new.self c.in-Some.labels c.in_ok-labels.labels c.in_ok-labels.was c.in-Some.ensures.steps c.loop-labels.invariant.coming in
-    let set : c.extend.new.self ≡ c.in_ok-labels.labels.items = c.extend.ensures ∙ (λ i. c.new-subset.ensures i ++ c.deref.ensures.value i) in
+    let set : c.extend.new.self ≡ c.in_ok-labels.labels.items = c.extend.ensures ∙ (λ i. c.new-subset.ensures i ++ c.deref-in-loop-labels.ensures.value i) in
     let all : c.push.new.self.items ≡ c.loop-labels.all.items ++ c.in_ok-labels.labels.items ∷ [] = c.in_ok-push.ensures.items ∙ ap (λ s. c.loop-labels.all.items ++ s ∷ []) set in
     record {
       can = search rules;

@@ -4,6 +4,6 @@ use Rattle.flip_rules.proofs.sides.Sides.of.Given as goal
 
 abbrev pub invariant-loop-place : goal.invariant-loop-place
 invariant-loop-place l = record {
-  made : take l.place l.all ≡ map (λ x. union l.first (without l.second x)) (take l.place l.labels);
+  made : take l.place l.all ≡ map (λ x. union l.first (without l.second x)) (take l.place l.label-items);
   long : length l.all ≡ 8;
 }
