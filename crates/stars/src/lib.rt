@@ -11,7 +11,9 @@
 mod build;
 mod here;
 mod laws;
+mod lists;
 mod map;
+mod near;
 mod over;
 mod rows;
 mod sides;
@@ -20,5 +22,6 @@ mod star;
 pub use here::{flip_here, has_labels, local_check};
 pub use laws::flips_seen_here;
 pub use map::StarMap;
+pub use near::flip_at;
 pub use over::Over;
 pub use star::Star;
