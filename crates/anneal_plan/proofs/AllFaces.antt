@@ -19,8 +19,9 @@ use Rattle.complex_core.proofs.Faces.{cmp_less, cmp_equal, cmp_greater, put_befo
 use Rattle.complex_core.proofs.Laws.{both_ways, nat_eq_is, nat_eq_same, has-with, has-without, or_left, or_right, holds_has, holds_each, listed, listed-append, listed-filter, listed-rising, same_lists, same_labels, same_set_itself, length-without, sorted_without}
 use Rattle.complex_core.proofs.SubsetLists.{two, clash, map_from, map_back, Chosen, chosen_is, chosen_from}
 use Rattle.anneal_plan.specs.Faces.{IsRow, AreRows}
-use Rattle.anneal_plan.specs.Proposals.{faces_at}
-use Rattle.anneal_plan.proofs.FaceParts.{parts_of, IsPart, part_of, part_row, sorted_row, listed-flat_map}
+use Rattle.stars.specs.Candidates.{faces_at}
+use Rattle.anneal_plan.proofs.FaceParts.{parts_of, IsPart, part_of, part_row, sorted_row}
+use Rattle.stars.proofs.Listing.{listed-flat_map}
 
 -- ---- adding the vertex keeps the order of sets of one size
 

@@ -1,25 +1,28 @@
 -- The candidate that a word chooses.
-use Rattle.std.proofs.Common.{◌≡◌, ℕ, zero, suc, ◌+◌, ◌-◌, ◌%◌, ◌≤◌, true, Option, Some, None, List, [], ◌∷◌, length, map, filter, slice_get, sym, ◌∙◌, ap, refl, arith}
-use Rattle.std.specs.List.{AllByRecursion}
+use Rattle.std.proofs.Common.{◌≡◌, ℕ, zero, suc, ◌+◌, ◌-◌, ◌%◌, ◌<◌, ◌≤◌, true, false, cond, Option, Some, None, List, [], ◌∷◌, length, map, filter, slice_get, sym, ◌∙◌, ap, refl, arith}
+use Rattle.std.specs.List.{AllByRecursion, cons_option}
+use Rattle.std.specs.List.Sorted.{IsStrictlySortedBy}
+use Rattle.std.specs.Result.{is_ok}
 use Rattle.std.specs.Option.{option_map}
 use Rattle.std.proofs.lemmas.List.{length-map}
-use Rattle.complex_core.specs.Labels.{has}
+use Rattle.complex_core.specs.Labels.{has, face_cmp}
 use Rattle.complex_core.specs.Spaces.{IsFacet}
 use Rattle.flip_rules.specs.declared.flip.Flip.{Flip}
 use Rattle.stars.specs.StarViews.{VertexStar, IsStar}
-use Rattle.anneal_plan.specs.Proposals.{flip_of, opposite, is_candidate, faces_at, inner, entering, chosen}
+use Rattle.stars.specs.Candidates.{flip_of, opposite, is_candidate, faces_at, candidate_faces}
+use Rattle.anneal_plan.specs.Proposals.{inner, entering, chosen}
 use Rattle.anneal_plan.specs.Paging.{Flips, page_of}
 use Rattle.anneal_plan.proofs.Pages.{got_first, got_later}
 use Rattle.anneal_plan.specs.Faces.{IsRow, AreRows, flips_at, rows_apart}
 use Rattle.anneal_plan.proofs.AllFaces.{faces_sized}
-use Rattle.anneal_plan.proofs.Gathered.{size_flips}
+use Rattle.stars.proofs.Gathered.{judged, judgement}
 
-slice_get-map : {X Y : Type 0} (f : X → Y) (xs : List X) (n : ℕ) → slice_get (map f xs) n ≡ option_map f (slice_get xs n)
+pub slice_get-map : {X Y : Type 0} (f : X → Y) (xs : List X) (n : ℕ) → slice_get (map f xs) n ≡ option_map f (slice_get xs n)
 slice_get-map f [] n = refl
 slice_get-map f (x ∷ xs) zero = refl
 slice_get-map f (x ∷ xs) (suc n) = slice_get-map f xs n
 
-get_none : {X : Type 0} (xs : List X) (n : ℕ) → length xs ≡ 0 → slice_get xs n ≡ None
+pub get_none : {X : Type 0} (xs : List X) (n : ℕ) → length xs ≡ 0 → slice_get xs n ≡ None
 get_none [] n e = refl
 get_none (x ∷ xs) n e = absurd (omega (arith, e))
 
@@ -50,6 +53,16 @@ row_enters s fresh x word n a b e is at w = ap (λ c. Some (flip_of a c)) w ∙ 
 
 -- ---- the other indices
 
+size_flips : (d n : ℕ) (rows faces : List (List ℕ)) → IsStrictlySortedBy face_cmp rows → 0 < n → n ≤ d → AllByRecursion (λ a. length a ≡ n) faces → flips_at d rows faces ≡ map (λ a. flip_of a (opposite rows a)) (filter (is_candidate rows (d + 2 - n)) faces)
+size_flips d n rows [] r some small h = refl
+size_flips d n rows (a ∷ faces) r some small h =
+    let ok : is_ok (judgement d rows a (opposite rows a)) ≡ is_candidate rows (d + 2 - n) a = judged d rows a r (omega (arith, some, h.0)) (omega (arith, small, h.0)) ∙ ap (λ k. is_candidate rows (d + 2 - k) a) h.0 in
+    ap (λ b. cons_option (cond b (Some (flip_of a (opposite rows a))) None) (flips_at d rows faces)) ok
+    ∙ elim (is_candidate rows (d + 2 - n) a) as (λ b. cons_option (cond b (Some (flip_of a (opposite rows a))) None) (flips_at d rows faces) ≡ map (λ c. flip_of c (opposite rows c)) (cond b (a ∷ filter (is_candidate rows (d + 2 - n)) faces) (filter (is_candidate rows (d + 2 - n)) faces))) [
+      | true ↦ ap (λ fs. flip_of a (opposite rows a) ∷ fs) (size_flips d n rows faces r some small h.1)
+      | false ↦ size_flips d n rows faces r some small h.1
+    ]
+
 each_row : (p d : ℕ) (rows : List (List ℕ)) → d ≤ 6 → AllByRecursion (IsFacet d) rows → AllByRecursion (λ f. has f p ≡ true) rows → AllByRecursion (IsRow p) rows
 each_row p d [] low h g = tt
 each_row p d (row ∷ rows) low h g = (record { face = h.0.face; few = omega (arith, h.0.size, low); held = g.0 }, each_row p d rows low h.1 g.1)
@@ -62,7 +75,7 @@ abbrev pub flips_out : VertexStar → ℕ → List Flip
 flips_out s others = flips_at s.dim s.rows (faces_at s.rows s.vertex (others + 1))
 
 pub inner_is : (s : VertexStar) (i others : ℕ) → IsStar s → 1 ≤ i → i ≤ s.dim → others ≡ s.dim - i → inner s i ≡ flips_out s others
-unfolding inner
+unfolding inner candidate_faces
 inner_is s i others h low high e =
     let n : ℕ = others + 1 in
     let size : s.dim + 1 - i ≡ n = omega (arith, e, high) in

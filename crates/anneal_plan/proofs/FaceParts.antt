@@ -9,18 +9,14 @@ use Rattle.complex_core.specs.Rising.{rising}
 use Rattle.complex_core.specs.Subsets.{subsets_of}
 use Rattle.complex_core.proofs.Sets.{above_tail, sorted_rising}
 use Rattle.complex_core.proofs.Faces.{face_filter}
-use Rattle.complex_core.proofs.Laws.{nat_eq_same, has-without, holds_has, listed, listed-append, listed-rising, length-without, sorted_without}
+use Rattle.complex_core.proofs.Laws.{nat_eq_same, has-without, holds_has, listed, listed-rising, length-without, sorted_without}
 use Rattle.complex_core.proofs.SubsetLists.{two, clash, Chosen, chosen_is, fewer, part_is_face}
+use Rattle.stars.proofs.Listing.{listed-flat_map}
 use Rattle.anneal_plan.specs.Faces.{IsRow, AreRows}
 
 -- the sets of n labels of the rows, each without the vertex, rising
 unfoldable pub parts_of : List (List ℕ) → ℕ → ℕ → List (List ℕ)
 parts_of rows p n = rising face_cmp (flat_map (λ row. subsets_of n (without row p)) rows)
-
--- what one of several lists has
-pub listed-flat_map : (f : List ℕ → List (List ℕ)) (rows : List (List ℕ)) (s : List ℕ) → listed (flat_map f rows) s ≡ list_any (λ row. listed (f row) s) rows
-listed-flat_map f [] s = refl
-listed-flat_map f (row ∷ rows) s = listed-append (f row) (flat_map f rows) s ∙ ap (λ b. listed (f row) s || b) (listed-flat_map f rows s)
 
 pub sorted_row : (p : ℕ) (row : List ℕ) → IsRow p row → IsStrictlySortedBy nat_cmp (without row p)
 sorted_row p row h = sorted_without row p (above_tail nat_cmp 0 row h.face.rising)

@@ -27,20 +27,14 @@ use Rattle.flip_rules.proofs.Links.{same_lists_is, same_lists_from}
 use Rattle.flip_rules.proofs.Legal.{verdict, shape_from}
 use Rattle.star_laws.specs.Stars.{star}
 use Rattle.stars.specs.StarViews.{VertexStar, IsStar}
-use Rattle.anneal_plan.specs.Proposals.{flip_of, opposite, is_candidate, faces_at, inner, entering, candidates, chosen, first_chosen, falling}
+use Rattle.stars.specs.Candidates.{flip_of, opposite, is_candidate, faces_at, candidate_faces}
+use Rattle.anneal_plan.specs.Proposals.{inner, entering, candidates, chosen, first_chosen, falling}
 use Rattle.anneal_plan.specs.Fits.{FitsStar, OnlyBCanBreak}
-use Rattle.anneal_plan.proofs.FaceParts.{listed-flat_map}
+use Rattle.stars.proofs.Listing.{listed-flat_map, each_listed}
 use Rattle.anneal_plan.proofs.Gaps.{labels_above}
-use Rattle.anneal_plan.proofs.Gathered.{all_of, apart, has-less, sorted_opposite}
+use Rattle.stars.proofs.Gathered.{all_of, apart, has-less, sorted_opposite}
 
 -- ---- facts of members
-
-each_at : (P : List ℕ → Type 0) (xs : List (List ℕ)) (a : List ℕ) → AllByRecursion P xs → listed xs a ≡ true → P a
-each_at P [] a h t = clash true refl (sym t)
-each_at P (x ∷ xs) a h t = elim (two (pointwise nat_eq x a)) [
-  | inl e ↦ subst P (same_sets_is x a e) h.0
-  | inr e ↦ each_at P xs a h.1 (sym (ap (λ b. b || listed xs a) e) ∙ t)
-]
 
 all_listed : (all xs : List (List ℕ)) → ((a : List ℕ) → listed xs a ≡ true → listed all a ≡ true) → AllByRecursion (λ a. listed all a ≡ true) xs
 all_listed all [] h = tt
@@ -103,7 +97,7 @@ over_itself d rows a r pure t =
     (λ f. listed-filter (λ g. holds g a) rows f ∙ both_ways (listed rows f && holds f a) (pointwise nat_eq a f || false)
     (λ u.
     let there : listed rows f ≡ true = first_so (listed rows f) (holds f a) u in
-    let g : IsFacet d f = each_at (IsFacet d) rows f pure there in
+    let g : IsFacet d f = each_listed (IsFacet d) rows f pure there in
     let e : f ≡ a = same_size f a (above_tail nat_cmp 0 f g.face.rising) (above_tail nat_cmp 0 a own.face.rising) (g.size ∙ sym own.size) (second_so (listed rows f) (holds f a) u) in
     or_left (pointwise nat_eq a f) false (ap (pointwise nat_eq a) e ∙ same_set_itself a))
     (λ u.
@@ -111,7 +105,7 @@ over_itself d rows a r pure t =
     ap (λ g. listed rows g && holds g a) (sym e) ∙ both_true t (holds_each a a (λ z v. v))))
   where
     own : IsFacet d a
-    own = each_at (IsFacet d) rows a pure t
+    own = each_listed (IsFacet d) rows a pure t
 
     one : (b : Bool) → (b || false) ≡ true → b ≡ true
     one true u = refl
@@ -122,9 +116,9 @@ side_itself a x = ap (λ b. union a (cond (not b) (x ∷ []) []) ∷ []) (nat_eq
 
 enter_one : (s : VertexStar) (free : List ℕ) (x : ℕ) (a : List ℕ) → IsStar s → 0 < x → has free x ≡ true → listed s.rows a ≡ true → has a x ≡ false → FitsStar s free (flip_of a (x ∷ []))
 enter_one s free x a h pos there t out =
-    let own : IsFacet s.dim a = each_at (IsFacet s.dim) s.rows a h.pure t in
+    let own : IsFacet s.dim a = each_listed (IsFacet s.dim) s.rows a h.pure t in
     record {
-      vertex = each_at (λ f. has f s.vertex ≡ true) s.rows a h.held t;
+      vertex = each_listed (λ f. has f s.vertex ≡ true) s.rows a h.held t;
       faces = record { first = own.face; second = record { few = omega arith; rising = above_cons nat_cmp 0 (x ∷ []) (cmp_less 0 x pos, tt) (above_cons nat_cmp x [] tt (sorted_none nat_cmp)) } };
       shape = record {
         first = λ z. omega (arith, z, own.size);
@@ -172,7 +166,7 @@ record IsFaceAt (s : VertexStar) (n : ℕ) (a : List ℕ) : Type 0 where
 in_row : (s : VertexStar) (n : ℕ) (row a : List ℕ) → IsStar s → listed s.rows row ≡ true → listed (filter (λ t. has t s.vertex) (subsets_of n row)) a ≡ true → IsFaceAt s n a
 in_row s n row a h there t =
     let both : (listed (subsets_of n row) a && has a s.vertex) ≡ true = sym (listed-filter (λ f. has f s.vertex) (subsets_of n row) a) ∙ t in
-    let own : IsFacet s.dim row = each_at (IsFacet s.dim) s.rows row h.pure there in
+    let own : IsFacet s.dim row = each_listed (IsFacet s.dim) s.rows row h.pure there in
     let c : Chosen n row a = chosen_is n row a (above_tail nat_cmp 0 row own.face.rising) (first_so (listed (subsets_of n row) a) (has a s.vertex) both) in
     record {
       face = part_is_face row a own.face c.rises c.part;
@@ -231,7 +225,7 @@ inside_all s free i n (a ∷ faces) h low high e t =
     ]
 
 inner_fit : (s : VertexStar) (free : List ℕ) (i : ℕ) → IsStar s → 1 ≤ i → i ≤ s.dim → AllByRecursion (FitsStar s free) (inner s i)
-unfolding inner
+unfolding inner candidate_faces
 inner_fit s free i h low high =
     let n : ℕ = s.dim + 1 - i in
     inside_all s free i n (faces_at s.rows s.vertex n) h low high refl (all_listed (faces_at s.rows s.vertex n) (faces_at s.rows s.vertex n) (λ a t. t))

@@ -25,8 +25,8 @@ use Rattle.complex_core.proofs.SubsetLists.{two, clash, chosen_is, chosen_from}
 use Rattle.flip_rules.specs.Flips.{sides, has_shape, same_sets}
 use Rattle.flip_rules.proofs.Legal.{verdict}
 use Rattle.flip_rules.proofs.Near.{held_near}
-use Rattle.anneal_plan.specs.Proposals.{flip_of, faces_at}
-use Rattle.anneal_plan.specs.Faces.{IsRow, AreRows, flip_at, flips_at}
+use Rattle.stars.specs.Candidates.{flip_of, faces_at, flip_at}
+use Rattle.anneal_plan.specs.Faces.{IsRow, AreRows, flips_at}
 use Rattle.anneal_plan.specs.Growth.{comes_next, next_labels, grown}
 use Rattle.anneal_plan.proofs.NextLabels.{in_any, lt_true, lt_from, has_next}
 use Rattle.anneal_plan.proofs.FaceParts.{parts_of, IsPart, part_of, sorted_row, listed-parts_of, sorted_parts}

@@ -2,13 +2,14 @@ pub mod WordLists
 pub mod Gaps
 pub mod FaceParts
 pub mod AllFaces
-pub mod Gathered
 pub mod NextLabels
 pub mod Nearing
 pub mod Growing
 pub mod Pages
 pub mod Stepping
 pub mod Choosing
+pub mod TwoRows
+pub mod Finding
 pub mod Trying
 pub mod Fitting
 pub mod Proposing

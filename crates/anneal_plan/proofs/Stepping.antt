@@ -12,11 +12,11 @@ use Rattle.complex_core.proofs.Sets.{above_tail}
 use Rattle.complex_core.proofs.Laws.{length_put_le}
 use Rattle.complex_core.proofs.SubsetLists.{two}
 use Rattle.flip_rules.specs.declared.flip.Flip.{Flip}
-use Rattle.anneal_plan.specs.Faces.{IsRow, AreRows, flip_at, flips_at}
+use Rattle.stars.specs.Candidates.{flip_at, faces_at}
+use Rattle.anneal_plan.specs.Faces.{IsRow, AreRows, flips_at}
 use Rattle.anneal_plan.specs.Growth.{next_labels, grown}
 use Rattle.anneal_plan.specs.Nearest.{Next, nearest}
 use Rattle.anneal_plan.specs.Paging.{Flips, no_flips, added, page_of}
-use Rattle.anneal_plan.specs.Proposals.{faces_at}
 use Rattle.anneal_plan.proofs.AllFaces.{few_faces}
 use Rattle.anneal_plan.proofs.Nearing.{IsNearest, Leads, nearest_is, no_labels, label_first, label_above}
 use Rattle.anneal_plan.proofs.Growing.{over_with, grown_alike, grown_flips}

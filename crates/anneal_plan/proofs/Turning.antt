@@ -13,7 +13,8 @@ use Rattle.flip_rules.specs.declared.flip.Flip.{Flip}
 use Rattle.star_laws.specs.Stars.{star}
 use Rattle.stars.specs.StarViews.{VertexStar}
 use Rattle.anneal_plan.specs.declared.plan.Phase.{Phase}
-use Rattle.anneal_plan.specs.Proposals.{flip_of, opposite, is_candidate, faces_at, inner, entering, candidates, fresh_label, indices, proposal_of}
+use Rattle.stars.specs.Candidates.{flip_of, opposite, is_candidate, faces_at, candidate_faces}
+use Rattle.anneal_plan.specs.Proposals.{inner, entering, candidates, fresh_label, indices, proposal_of}
 use Rattle.anneal_plan.specs.Turns.{after_flip, after_flips, turns_from, turn_then, turn_count, turns, rest_after, TurnsStart, TurnsGoOn, TurnsStop, TurnsEnd, TurnsSplit, TurnsAreFew, TurnsHaveVertex}
 use Rattle.anneal_plan.proofs.Fitting.{first_fits, each_filter}
 
@@ -120,7 +121,7 @@ faces_have rows p n =
     (each_flat (λ s. has s p ≡ true) (λ row. filter (λ s. has s p) (subsets_of n row)) rows (λ row. passes (λ s. has s p) (subsets_of n row)))
 
 inner_have : (s : VertexStar) (i : ℕ) → AllByRecursion (λ f. has f.a s.vertex ≡ true) (inner s i)
-unfolding inner
+unfolding inner candidate_faces
 inner_have s i =
     let faces : List (List ℕ) = faces_at s.rows s.vertex (s.dim + 1 - i) in
     each_flip s.vertex (opposite s.rows) (filter (is_candidate s.rows (i + 1)) faces) (each_filter (λ a. has a s.vertex ≡ true) (is_candidate s.rows (i + 1)) faces (faces_have s.rows s.vertex (s.dim + 1 - i)))

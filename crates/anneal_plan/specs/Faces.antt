@@ -1,11 +1,9 @@
 -- The faces of a star that have its vertex, and the flips that take them out.
-use Rattle.std.specs.Prelude.{◌≡◌, ℕ, ◌≤◌, ◌<◌, true, not, if◌then◌else◌, List, [], length, filter, Option, Some, None}
+use Rattle.std.specs.Prelude.{◌≡◌, ℕ, ◌≤◌, ◌<◌, true, not, List, length, filter}
 use Rattle.std.specs.List.{filter_map, AllByRecursion}
-use Rattle.std.specs.Result.{is_ok}
 use Rattle.complex_core.specs.Labels.{IsFace, has}
-use Rattle.flip_rules.specs.Flips.{why_near}
 use Rattle.flip_rules.specs.declared.flip.Flip.{Flip}
-use Rattle.anneal_plan.specs.Proposals.{flip_of, opposite}
+use Rattle.stars.specs.Candidates.{flip_at}
 
 -- a face of at most seven labels that has the vertex
 pub record IsRow (p : ℕ) (row : List ℕ) : Type 0 where
@@ -15,10 +13,6 @@ pub record IsRow (p : ℕ) (row : List ℕ) : Type 0 where
 
 abbrev pub AreRows : ℕ → List (List ℕ) → Type 0
 AreRows p rows = (0 < p) × AllByRecursion (IsRow p) rows
-
--- the flip that takes a face out, where the facets over it are those of a flip
-abbrev pub flip_at : ℕ → List (List ℕ) → List ℕ → Option Flip
-flip_at d rows a = if is_ok (why_near d rows [] a (opposite rows a)) then Some (flip_of a (opposite rows a)) else None
 
 -- these flips, one for each such face among some
 abbrev pub flips_at : ℕ → List (List ℕ) → List (List ℕ) → List Flip

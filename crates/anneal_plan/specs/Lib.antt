@@ -5,6 +5,7 @@ pub mod Words
 pub mod Places
 pub mod Proposals
 pub mod Faces
+pub mod Listed
 pub mod Growth
 pub mod Nearest
 pub mod Paging

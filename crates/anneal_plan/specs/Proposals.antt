@@ -1,16 +1,10 @@
 -- What a try proposes: a flip at a vertex, which the phase, some words and the star of the vertex determine.
-use Rattle.std.specs.Prelude.{ℕ, ◌+◌, ◌-◌, ◌/◌, ◌%◌, zero, suc, ◌&&◌, Bool, not, nat_eq, if◌then◌else◌, List, [], ◌∷◌, length, map, filter, Option, Some, None, slice_get, slice_index, ℤ, pos, negsuc}
-use Rattle.std.specs.List.{flat_map}
+use Rattle.std.specs.Prelude.{ℕ, ◌+◌, ◌-◌, ◌/◌, ◌%◌, zero, suc, not, nat_eq, if◌then◌else◌, List, [], ◌∷◌, length, map, filter, Option, Some, None, slice_get, slice_index, ℤ, pos, negsuc}
 use Rattle.std.specs.Option.{option_or}
-use Rattle.complex_core.specs.Labels.{has, face_cmp}
-use Rattle.complex_core.specs.Rising.{rising}
-use Rattle.complex_core.specs.Spaces.{over}
-use Rattle.complex_core.specs.Maps.{used}
-use Rattle.complex_core.specs.Links.{less}
-use Rattle.complex_core.specs.Subsets.{subsets_of}
-use Rattle.flip_rules.specs.Flips.{link_is}
+use Rattle.complex_core.specs.Labels.{has}
 use Rattle.flip_rules.specs.declared.flip.Flip.{Flip}
 use Rattle.stars.specs.StarViews.{VertexStar}
+use Rattle.stars.specs.Candidates.{flip_of, opposite, candidate_faces}
 use Rattle.anneal_plan.specs.declared.plan.Phase.{Phase}
 use Rattle.anneal_plan.specs.declared.plan.Phase.TheVariants.{Heat, Relax, Reduce}
 
@@ -22,24 +16,9 @@ allowed_of d Reduce = negsuc 0
 
 -- ---- the candidates of an index
 
-abbrev pub flip_of : List ℕ → List ℕ → Flip
-flip_of a b = record { a = a; b = b }
-
--- the labels that the facets over A have beside A
-abbrev pub opposite : List (List ℕ) → List ℕ → List ℕ
-opposite rows a = less (used (over rows a)) a
-
--- these labels are B of so many labels, and the facets over A are exactly the A ∪ (B less b)
-abbrev pub is_candidate : List (List ℕ) → ℕ → List ℕ → Bool
-is_candidate rows n a = nat_eq (length (opposite rows a)) n && link_is rows a (opposite rows a)
-
--- the faces of n labels that have the vertex, rising
-unfoldable pub faces_at : List (List ℕ) → ℕ → ℕ → List (List ℕ)
-faces_at rows p n = rising face_cmp (flat_map (λ row. filter (λ s. has s p) (subsets_of n row)) rows)
-
 -- the flips of an index from 1, in rising order of A, which has d + 1 - i labels
 unfoldable pub inner : VertexStar → ℕ → List Flip
-inner s i = map (λ a. flip_of a (opposite s.rows a)) (filter (is_candidate s.rows (i + 1)) (faces_at s.rows s.vertex (s.dim + 1 - i)))
+inner s i = map (λ a. flip_of a (opposite s.rows a)) (candidate_faces s i)
 
 -- the flips of index 0, which bring a label in: A is a facet that doesn't have it
 unfoldable pub entering : VertexStar → Option ℕ → List Flip

@@ -6,13 +6,12 @@ ghost use Rattle.complex_core.specs.Labels.{face_cmp};
 ghost use Rattle.anneal_plan.specs.Faces.{AreRows, flips_at};
 ghost use Rattle.anneal_plan.specs.Growth.{grown};
 ghost use Rattle.anneal_plan.specs.Paging.{added, page_of};
-ghost use Rattle.anneal_plan.specs.Proposals.{faces_at};
+ghost use Rattle.stars.specs.Candidates.{faces_at};
 
-use crate::near::flip_at;
 use crate::nearest::Nearest;
 use crate::page::Page;
 use complex_core::Face;
-use stars::Star;
+use stars::{Star, flip_at};
 
 // The vertex of a star, and the dimension.
 #[derive(Clone, Copy)]

@@ -8,7 +8,7 @@
 #![tactic(auto)]
 
 mod grow;
-mod near;
+mod listed;
 mod nearest;
 mod page;
 mod places;
@@ -18,5 +18,5 @@ mod words;
 
 pub use places::{free, live};
 pub use plan::{Phase, Plan, PlanFault};
-pub use propose::{allowed, only_b_can_break, proposal, turns_follow};
+pub use propose::{allowed, find_candidates, only_b_can_break, proposal, turns_follow};
 pub use words::{draw, draws_follow};

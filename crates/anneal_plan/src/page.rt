@@ -1,10 +1,12 @@
 //! A page of flips that come one after another.
 
-ghost use Rattle.std.specs.Prelude.{◌≡◌, ◌+◌, ◌-◌, ◌<◌, ◌≤◌, ◌^◌, slice_get};
+ghost use Rattle.std.specs.Prelude.{◌≡◌, ◌+◌, ◌-◌, ◌<◌, ◌≤◌, ◌^◌, ◌++◌, map, slice_get, OnOk};
 ghost use Rattle.anneal_plan.specs.Paging.{no_flips, added};
 
 use arrayvec::ArrayVec;
+use complex_core::Face;
 use flip_rules::Flip;
+use std::alloc::AllocError;
 use std::marker::Model;
 
 /// Counts flips as they come, and keeps up to 64 of them from a place on. It takes no memory.
@@ -44,6 +46,16 @@ impl Page {
             self.kept.push(flip);
         }
         self.count += 1;
+    }
+
+    /// Puts the faces that the kept flips take out behind others.
+    pub(crate) fn add_faces(&self, faces: &mut Vec<Face>) -> Result<(), AllocError>
+        ensures { OnOk result (faces.new.items ≡ faces.old.items ++ map (λ f. f.a) self.now.kept) }
+    {
+        for flip in self.kept.as_slice() {
+            faces.push(flip.a)?;
+        }
+        Ok(())
     }
 
     /// How many flips have come.

@@ -9,10 +9,12 @@ ghost use Rattle.anneal_plan.specs.Turns.{TurnsStart, TurnsGoOn, TurnsStop, Turn
 ghost use Rattle.anneal_plan.specs.Proposals.{allowed_of, candidates, chosen, entering, inner, first_chosen, fresh_label, falling, indices, proposal_of};
 
 use crate::grow::flips_of;
+use crate::listed::{find_list, knows_one, listed_flip};
 use crate::plan::Phase;
 use complex_core::Face;
 use flip_rules::Flip;
 use stars::Star;
+use std::alloc::Global;
 
 /// The greatest change of the number of facets that a try of this phase may commit.
 pub fn allowed(dim: u32, phase: Phase) -> i64
@@ -78,8 +80,8 @@ fn entering_flip(star: &Star, fresh: Option<u16>, word: u32) -> Option<Flip>
     Some(Flip { a, b })
 }
 
-// The candidate of an index from 1 that a word chooses.
-fn inner_flip(star: &Star, index: u32, word: u32) -> Option<Flip>
+// The candidate of an index from 1 that a word chooses, found by a walk over the star.
+fn searched_flip(star: &Star, index: u32, word: u32) -> Option<Flip>
     requires low { 1 ≤ index }
     requires high { index ≤ star.now.dim }
     ensures { result ≡ chosen (inner star.now index) word }
@@ -94,6 +96,18 @@ fn inner_flip(star: &Star, index: u32, word: u32) -> Option<Flip>
     match first.get(place) {
         Some(flip) => Some(flip),
         None => flips_of(star, others, place).get(0),
+    }
+}
+
+// The candidate of an index from 1 that a word chooses.
+fn inner_flip(star: &Star, index: u32, word: u32) -> Option<Flip>
+    requires low { 1 ≤ index }
+    requires high { index ≤ star.now.dim }
+    ensures { result ≡ chosen (inner star.now index) word }
+{
+    match star.candidates(index) {
+        Some(faces) => listed_flip(star, faces, word),
+        None => searched_flip(star, index, word),
     }
 }
 
@@ -154,6 +168,22 @@ fn first_flip(star: &Star, indices: Indices, fresh: Option<u16>, word: u32) -> O
         }
     }
     None
+}
+
+/// Finds the candidates from which [`proposal`] chooses, and lets the star keep them, so that it
+/// needn't walk over the star again. The star stays the same, also where memory is short.
+pub fn find_candidates(alloc: Global, star: &mut Star, phase: Phase, words: &[u32; 8])
+    requires dim { 1 ≤ star.old.dim }
+    ensures { star.new ≡ star.old }
+{
+    let indices = indices_of(star.dim(), phase, words[1]);
+    for tried in 0..indices.count {
+        let index = indices.first - tried;
+        find_list(alloc, star, index);
+        if knows_one(star, index) {
+            return;
+        }
+    }
 }
 
 /// Proposes the flip of a turn of a try, from the star of the try's vertex as the flips before have

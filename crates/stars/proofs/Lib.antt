@@ -9,3 +9,7 @@ pub mod Adding
 pub mod Placing
 pub mod Gathering
 pub mod Asking
+pub mod Gathered
+pub mod Listing
+pub mod Staying
+pub mod Deciding

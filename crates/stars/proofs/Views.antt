@@ -9,11 +9,22 @@ use Rattle.complex_core.proofs.Laws.{holds_has}
 use Rattle.flip_rules.specs.Flips.{IsNear}
 use Rattle.star_laws.specs.Stars.{star}
 use Rattle.stars.specs.StarViews.{VertexStar, IsStar, IsStarOf}
+use Rattle.stars.specs.Lists.{CandidateList, AreLists}
 
 pub empty_is_star : (vertex dim : ℕ) (rows : List (List ℕ)) → rows ≡ [] → 1 ≤ vertex → dim ≤ 6 → IsStar (record { vertex = vertex; dim = dim; rows = rows })
 empty_is_star vertex dim rows e pos low =
     let P : List (List ℕ) → Type 0 = λ fs. IsStar (record { vertex = vertex; dim = dim; rows = fs }) in
     subst P (sym e) (record { vertex = omega (arith, pos); low = low; rising = sorted_none face_cmp; pure = tt; held = tt })
+
+-- with no lists
+pub empty_star : (vertex dim : ℕ) (rows : List (List ℕ)) (lists : List CandidateList) → rows ≡ [] → lists ≡ [] → 1 ≤ vertex → dim ≤ 6 → IsStar (record { vertex = vertex; dim = dim; rows = rows }) × AreLists (record { vertex = vertex; dim = dim; rows = rows }) lists
+empty_star vertex dim rows lists e none pos low =
+    let P : List CandidateList → Type 0 = λ ls. AreLists (record { vertex = vertex; dim = dim; rows = rows }) ls in
+    (empty_is_star vertex dim rows e pos low, subst P (sym none) tt)
+
+-- a star once more, whose lists are right where the old ones were
+pub same_star : (s t : VertexStar) (old new : List CandidateList) → t ≡ s → IsStar s × AreLists s old → ((r : VertexStar) → AreLists r old → AreLists r new) → IsStar t × AreLists t new
+same_star s t old new e h f = let P : VertexStar → Type 0 = λ r. IsStar r × AreLists r new in subst P (sym e) (h.0, f s h.1)
 
 -- a test that goes through another one
 filter_within : (p q : List ℕ → Bool) (fs : List (List ℕ)) → ((f : List ℕ) → p f ≡ true → q f ≡ true) → filter p fs ≡ filter p (filter q fs)

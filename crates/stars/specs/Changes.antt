@@ -17,6 +17,10 @@ star_changed out more s = record s { rows = rising face_cmp (staying s.rows out 
 abbrev pub stars_changed : List VertexStar → List ℕ → List (List ℕ) → List (List ℕ) → List VertexStar
 stars_changed near labels out more = map (λ s. if has labels s.vertex then star_changed out more s else s) near
 
+-- these sets have no other labels
+abbrev pub AreWithin : List ℕ → List (List ℕ) → Type 0
+AreWithin labels sets = AllByRecursion (λ f. holds labels f ≡ true) sets
+
 -- the stars of these labels are held, and the sets that are put in are facets of their dimension
 pub record CanChange (near : List VertexStar) (labels : List ℕ) (more : List (List ℕ)) : Type 0 where
   pub rising : IsRising (vertices near)

@@ -3,3 +3,5 @@ pub mod StarViews
 pub mod FlipsHere
 pub mod Changes
 pub mod Building
+pub mod Candidates
+pub mod Lists

@@ -11,7 +11,9 @@
 mod build;
 mod here;
 mod laws;
+mod lists;
 mod map;
+mod near;
 mod over;
 mod rows;
 mod star;
@@ -19,5 +21,6 @@ mod star;
 pub use here::{flip_here, has_labels, has_star, local_check};
 pub use laws::flips_seen_here;
 pub use map::StarMap;
+pub use near::flip_at;
 pub use over::Over;
 pub use star::Star;

@@ -1,9 +1,11 @@
 // The star of a vertex.
-ghost use Rattle.std.specs.Prelude.{◌≡◌, ◌<◌, ◌≤◌, ◌==◌, [], length, IfOk, OnOk};
+ghost use Rattle.std.specs.Prelude.{◌≡◌, ◌<◌, ◌≤◌, ◌==◌, [], length, IfOk, IfSome, OnOk};
 ghost use Rattle.complex_core.specs.Spaces.{over};
 ghost use Rattle.stars.specs.StarViews.{IsStar};
 ghost use Rattle.stars.specs.Building.{with_row};
+ghost use Rattle.stars.specs.Candidates.{IsListOf};
 
+use crate::lists::{Candidates, copies_of, find_list};
 use crate::over::Over;
 use complex_core::Face;
 use std::alloc::{AllocError, Global};
@@ -17,16 +19,19 @@ pub struct Star {
     vertex: u16,
     dim: u32,
     rows: Vec<Face>,
+    // The candidates of those indices for which they were found since the facets changed.
+    lists: Vec<Candidates>,
 }
 
 impl Model for Star {
     ghost use Rattle.stars.specs.StarViews.{VertexStar, IsStar};
+    ghost use Rattle.stars.specs.Lists.{AreLists};
 
     ghost Value = { VertexStar };
 
     ghost view = { λ s. record { vertex = s.vertex; dim = s.dim; rows = s.rows.items } };
 
-    ghost invariant = { λ s. IsStar (record { vertex = s.vertex; dim = s.dim; rows = s.rows.items }) };
+    ghost invariant = { λ s. IsStar (record { vertex = s.vertex; dim = s.dim; rows = s.rows.items }) × AreLists (record { vertex = s.vertex; dim = s.dim; rows = s.rows.items }) s.lists.items };
 }
 
 impl Star {
@@ -40,6 +45,7 @@ impl Star {
             vertex,
             dim,
             rows: Vec::new(alloc),
+            lists: Vec::new(alloc),
         }
     }
 
@@ -81,6 +87,21 @@ impl Star {
         Over::new(&self.rows, face)
     }
 
+    /// The faces that are candidates of an index, rising, where the star knows them.
+    pub fn candidates(&self, index: u32) -> Option<&[Face]>
+        ensures { IfSome result (λ faces. IsListOf self.now index faces.now) }
+    {
+        find_list(&self.lists, index)
+    }
+
+    /// Keeps the faces that are candidates of an index, unless memory is short.
+    pub fn keep_candidates(&mut self, index: u32, faces: Vec<Face>)
+        requires { IsListOf self.old index faces.items }
+        ensures { self.new ≡ self.old }
+    {
+        let _unless_memory_is_short = self.lists.push(Candidates { index, faces });
+    }
+
     /// The same star once more.
     pub fn copy(&self, alloc: Global) -> Result<Star, AllocError>
         ensures { IfOk result (λ s. s ≡ self.now) }
@@ -89,6 +110,7 @@ impl Star {
             vertex: self.vertex,
             dim: self.dim,
             rows: Vec::from_slice(alloc, &self.rows)?,
+            lists: copies_of(alloc, &self.lists),
         })
     }
 
@@ -98,6 +120,7 @@ impl Star {
         ensures { OnOk result (self.new ≡ with_row facet.now self.old) }
     {
         self.rows.push(*facet)?;
+        self.lists.clear();
         Ok(())
     }
 
@@ -107,6 +130,7 @@ impl Star {
         ensures left { self.new ≡ record self.old { rows = [] } }
         ensures star { IsStar self.old }
     {
+        self.lists.clear();
         let none = Vec::new(*self.rows.allocator());
         std::mem::replace(&mut self.rows, none)
     }
@@ -116,6 +140,7 @@ impl Star {
         requires { IsStar (record self.old { rows = rows.items }) }
         ensures { self.new ≡ record self.old { rows = rows.items } }
     {
+        self.lists.clear();
         self.rows = rows;
     }
 }

@@ -1,5 +1,5 @@
-use Rattle.stars.proofs.Views.{empty_is_star}
+use Rattle.stars.proofs.Views.{empty_star}
 use Rattle.stars.proofs.star.Star.empty.Goals as goal
 
 pub invariant_of-result : goal.invariant_of-result
-invariant_of-result c = empty_is_star c.args.vertex c.args.dim c.new.result.items c.new.ensures.items c.requires.vertex c.requires.low
+invariant_of-result c = empty_star c.args.vertex c.args.dim c.new.result.items c.new-2.result.items c.new.ensures.items c.new-2.ensures.items c.requires.vertex c.requires.low

@@ -1,6 +1,6 @@
 use Rattle.std.proofs.Common.{rules}
-use Rattle.anneal_plan.proofs.Gathered.{flip_found, flip_missed, flip_too_large}
-use Rattle.anneal_plan.proofs.near.flip_at.Goals as goal
+use Rattle.stars.proofs.Gathered.{flip_found, flip_missed, flip_too_large}
+use Rattle.stars.proofs.near.flip_at.Goals as goal
 
 pub returns-in_err-labels : goal.returns-in_err-labels
 returns-in_err-labels c = flip_too_large c.args.dim c.args.rows.now c.args.face.now c.labels_over.result _ c.requires.low (search rules) c.labels_over.ensures (search rules)

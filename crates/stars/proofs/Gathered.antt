@@ -1,6 +1,6 @@
 -- The facets over a face, against those of a flip.
-use Rattle.std.proofs.Common.{◌≡◌, inl, inr, ℕ, suc, ◌+◌, ◌-◌, ◌<◌, ◌≤◌, Bool, true, false, not, nat_eq, ◌||◌, ◌&&◌, cond, if◌then◌else◌, Option, Some, None, Result, List, [], ◌∷◌, length, map, filter, drop, get_or, sym, ◌∙◌, ap, refl, subst, arith, eq-eqb}
-use Rattle.std.specs.List.{AllByRecursion, flat_map, cons_option}
+use Rattle.std.proofs.Common.{◌≡◌, inl, inr, ℕ, suc, ◌+◌, ◌-◌, ◌<◌, ◌≤◌, Bool, true, false, not, nat_eq, ◌||◌, ◌&&◌, cond, if◌then◌else◌, Option, Some, None, Result, List, [], ◌∷◌, length, drop, get_or, sym, ◌∙◌, ap, refl, subst, arith, eq-eqb}
+use Rattle.std.specs.List.{flat_map}
 use Rattle.std.specs.List.Sorted.{IsStrictlySortedBy}
 use Rattle.std.specs.Option.{SomeIff}
 use Rattle.std.specs.Result.{is_ok}
@@ -23,8 +23,7 @@ use Rattle.flip_rules.specs.declared.flip.Flip.{Flip}
 use Rattle.flip_rules.specs.declared.flip.Illegal.{Illegal}
 use Rattle.flip_rules.proofs.Links.{have_sides, are_sides, link_tested, sides_held}
 use Rattle.flip_rules.proofs.Legal.{verdict, shaped, shape_from}
-use Rattle.anneal_plan.specs.Proposals.{flip_of, opposite, is_candidate}
-use Rattle.anneal_plan.specs.Faces.{flip_at, flips_at}
+use Rattle.stars.specs.Candidates.{flip_of, opposite, is_candidate, flip_at}
 
 -- ---- the labels of the facets over a face, gathered one facet after another
 
@@ -87,7 +86,7 @@ too_many rows more a labels e n h = n (omega (arith, more_gathered labels more a
 
 -- ---- the labels that are left beside the face
 
-sorted_less : (xs ys : List ℕ) → IsStrictlySortedBy nat_cmp xs → IsStrictlySortedBy nat_cmp (less xs ys)
+pub sorted_less : (xs ys : List ℕ) → IsStrictlySortedBy nat_cmp xs → IsStrictlySortedBy nat_cmp (less xs ys)
 sorted_less xs [] r = r
 sorted_less xs (y ∷ ys) r = sorted_less (without xs y) ys (sorted_without xs y r)
 
@@ -182,7 +181,7 @@ chosen_by c f e = sym (ap (λ b. cond b (Some f) None) e)
 none_by : (c : Bool) (f : Flip) → c ≡ false → None ≡ (if c then Some f else None)
 none_by c f e = sym (ap (λ b. cond b (Some f) None) e)
 
-abbrev judgement : ℕ → List (List ℕ) → List ℕ → List ℕ → Result (Unit {0}) Illegal
+abbrev pub judgement : ℕ → List (List ℕ) → List ℕ → List ℕ → Result (Unit {0}) Illegal
 judgement d rows a b = why_near d rows [] a b
 
 pub flip_found : (d : ℕ) (rows : List (List ℕ)) (a labels b : List ℕ) (r : Result (Unit {0}) Illegal) → labels ≡ used (over rows a) → b ≡ less labels a → r ≡ why_near d rows [] a b → is_ok r ≡ true → Some (flip_of a b) ≡ flip_at d rows a
@@ -212,18 +211,6 @@ flip_too_large d rows a r o low e s none =
     unshaped = elim (two (has_shape d a (opposite rows a))) [
       | inl t ↦ absurd (many (omega (arith, length_less (used (over rows a)) a (sorted_rising nat_cmp_total (all_of (over rows a))), (shaped d a (opposite rows a) t).sizes, low)))
       | inr f ↦ f
-    ]
-
--- ---- all flips of some faces of one size
-
-pub size_flips : (d n : ℕ) (rows faces : List (List ℕ)) → IsStrictlySortedBy face_cmp rows → 0 < n → n ≤ d → AllByRecursion (λ a. length a ≡ n) faces → flips_at d rows faces ≡ map (λ a. flip_of a (opposite rows a)) (filter (is_candidate rows (d + 2 - n)) faces)
-size_flips d n rows [] r some small h = refl
-size_flips d n rows (a ∷ faces) r some small h =
-    let ok : is_ok (judgement d rows a (opposite rows a)) ≡ is_candidate rows (d + 2 - n) a = judged d rows a r (omega (arith, some, h.0)) (omega (arith, small, h.0)) ∙ ap (λ k. is_candidate rows (d + 2 - k) a) h.0 in
-    ap (λ b. cons_option (cond b (Some (flip_of a (opposite rows a))) None) (flips_at d rows faces)) ok
-    ∙ elim (is_candidate rows (d + 2 - n) a) as (λ b. cons_option (cond b (Some (flip_of a (opposite rows a))) None) (flips_at d rows faces) ≡ map (λ c. flip_of c (opposite rows c)) (cond b (a ∷ filter (is_candidate rows (d + 2 - n)) faces) (filter (is_candidate rows (d + 2 - n)) faces))) [
-      | true ↦ ap (λ fs. flip_of a (opposite rows a) ∷ fs) (size_flips d n rows faces r some small h.1)
-      | false ↦ size_flips d n rows faces r some small h.1
     ]
 
 -- ---- for the answers

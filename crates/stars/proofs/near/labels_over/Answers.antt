@@ -1,7 +1,7 @@
 use Rattle.std.proofs.Common.{◌∙◌, sym, rules, drop, ◌+◌}
 use Rattle.complex_core.specs.Labels.{union}
-use Rattle.anneal_plan.proofs.Gathered.{gathered_end, row_gathered, too_many, none_of}
-use Rattle.anneal_plan.proofs.near.labels_over.Goals as goal
+use Rattle.stars.proofs.Gathered.{gathered_end, row_gathered, too_many, none_of}
+use Rattle.stars.proofs.near.labels_over.Goals as goal
 
 pub returns-in_err-labels : goal.returns-in_err-labels
 returns-in_err-labels c =

@@ -1,6 +1,6 @@
 use Rattle.std.proofs.Common.{sym, ap, ◌∙◌, ◌-◌}
 use Rattle.anneal_plan.proofs.Choosing.{none_inside, chosen_first, chosen_later}
-use Rattle.anneal_plan.proofs.propose.inner_flip.Goals as goal
+use Rattle.anneal_plan.proofs.propose.searched_flip.Goals as goal
 
 pub returns-then-count-eq0 : goal.returns-then-count-eq0
 returns-then-count-eq0 c =

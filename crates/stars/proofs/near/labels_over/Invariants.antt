@@ -1,6 +1,6 @@
 use Rattle.std.proofs.Common.{◌≡◌, ◌≤◌, [], drop, length}
-use Rattle.anneal_plan.proofs.Gathered.{gathered}
-use Rattle.anneal_plan.proofs.near.labels_over.Given as goal
+use Rattle.stars.proofs.Gathered.{gathered}
+use Rattle.stars.proofs.near.labels_over.Given as goal
 
 -- the labels so far, with those of the rest of the facets, are all
 abbrev pub invariant-loop-row : goal.invariant-loop-row
