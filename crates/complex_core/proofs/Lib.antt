@@ -1,3 +1,4 @@
+pub mod Booleans
 pub mod Sets
 pub mod Faces
 pub mod Sorting
@@ -14,3 +15,5 @@ pub mod Renaming
 pub mod LinkFaces
 pub mod SubsetLists
 pub mod Combinations
+pub mod Members
+pub mod SetLists
