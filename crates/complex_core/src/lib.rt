@@ -12,3 +12,4 @@ mod subset;
 pub use complex::{Complex, ComplexFault, put_all_in, take_all_out};
 pub use face::{Face, FaceFault};
 pub use map::{MapFault, VertexMap};
+pub use relabel::image_of;

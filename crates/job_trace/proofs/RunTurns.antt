@@ -16,7 +16,8 @@ use Rattle.flip_world.specs.Runs.{IsEvent, Turn, IsRun}
 use Rattle.flip_rules.specs.Entries.{JournalEntry}
 use Rattle.job_answer.specs.Lines.{flip_line}
 use Rattle.trace_text.specs.Traces.{Trace, names}
-use Rattle.job_trace.specs.TraceTexts.{named_flip, answer_line, answer_lines, pending_line, pending_lines, entry_lines}
+use Rattle.flip_names.specs.Names.{named_flip}
+use Rattle.job_trace.specs.TraceTexts.{answer_line, answer_lines, pending_line, pending_lines, entry_lines}
 use Rattle.job_trace.specs.Traced.{placed, opened_for, end_of, is_told, is_nothing}
 use Rattle.job_trace.specs.TraceRuns.{entry_line, IsTurn, HasRun}
 use Rattle.complex_core.proofs.Members.{taken_more}
