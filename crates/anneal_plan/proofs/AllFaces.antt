@@ -5,28 +5,26 @@ use Rattle.std.specs.List.Sorted.{IsStrictlySortedBy}
 use Rattle.std.specs.Cmp.{first_so, second_so}
 use Rattle.std.specs.Cmp.Derive.{both_true}
 use Rattle.std.specs.Cmp.Lexicographic.{pointwise, nat_list_cmp_total}
-use Rattle.std.specs.Ordering.{nat_cmp, ordering_then, match_ordering}
-use Rattle.std.specs.declared.cmp.Ordering.TheVariants.{Less, Equal, Greater}
+use Rattle.std.specs.Ordering.{nat_cmp, ordering_then}
+use Rattle.std.specs.declared.cmp.Ordering.TheVariants.{Less, Greater}
 use Rattle.std.proofs.lemmas.Bool.{cases_order}
 use Rattle.std.proofs.lemmas.List.{length-map}
 use Rattle.std.proofs.Math.Nat.{pow-suc}
 use Rattle.std.proofs.lemmas.Cmp.{nat_cmp_total}
 use Rattle.complex_core.specs.Labels.{has, with, without, face_cmp}
-use Rattle.complex_core.specs.Rising.{put, rising}
+use Rattle.complex_core.specs.Rising.{rising}
 use Rattle.complex_core.specs.Subsets.{subsets_of}
 use Rattle.complex_core.proofs.Sets.{Above, above_head, above_tail, above_cons, sorted_none, sorted_put, sorted_rising}
 use Rattle.complex_core.proofs.Faces.{cmp_less, cmp_equal, cmp_greater, put_before, put_after, with_new}
-use Rattle.complex_core.proofs.Laws.{both_ways, nat_eq_is, nat_eq_same, has-with, has-without, or_left, or_right, holds_has, holds_each, listed, listed-append, listed-filter, listed-rising, same_lists, same_labels, same_set_itself, length-without, sorted_without}
+use Rattle.complex_core.proofs.Laws.{both_ways, nat_eq_is, nat_eq_same, has-with, has-without, or_left, or_right, holds_has, holds_each, listed, listed-append, listed-filter, listed-rising, same_lists, same_set_itself, length-without, sorted_without}
 use Rattle.complex_core.proofs.SubsetLists.{two, clash, map_from, map_back, Chosen, chosen_is, chosen_from}
 use Rattle.anneal_plan.specs.Faces.{IsRow, AreRows}
 use Rattle.stars.specs.Candidates.{faces_at}
 use Rattle.anneal_plan.proofs.FaceParts.{parts_of, IsPart, part_of, part_row, sorted_row}
-use Rattle.stars.proofs.Listing.{listed-flat_map}
+use Rattle.complex_core.proofs.SetLists.{listed-flat_map, rising_length}
+use Rattle.complex_core.proofs.Members.{with_back}
 
 -- ---- adding the vertex keeps the order of sets of one size
-
-cmp_heads : (x y : ℕ) (s t u v : List ℕ) → nat_cmp x y ≡ Less → face_cmp (x ∷ s) (y ∷ t) ≡ face_cmp (x ∷ u) (y ∷ v)
-cmp_heads x y s t u v e = ap (λ r. ordering_then r (face_cmp s t)) e ∙ sym (ap (λ r. ordering_then r (face_cmp u v)) e)
 
 less_heads : (x y : ℕ) (s t : List ℕ) → x < y → face_cmp (x ∷ s) (y ∷ t) ≡ Less
 less_heads x y s t l = ap (λ r. ordering_then r (face_cmp s t)) (cmp_less x y l)
@@ -86,25 +84,6 @@ sorted_with p n (t ∷ ts) a r =
 
 -- ---- the subsets with the vertex, and those without it
 
-with_without : (s : List ℕ) (p : ℕ) → IsStrictlySortedBy nat_cmp s → has s p ≡ true → with (without s p) p ≡ s
-with_without s p r h = same_labels (with (without s p) p) s (sorted_put nat_cmp_total p (without s p) (sorted_without s p r)) r
-    (λ z. has-with (without s p) p z ∙ ap (λ b. nat_eq p z || b) (has-without s p z) ∙ there z)
-  where
-    swapped : (z : ℕ) → nat_eq z p ≡ nat_eq p z
-    swapped z = both_ways (nat_eq z p) (nat_eq p z)
-        (λ e. ap (λ w. nat_eq w z) (sym (nat_eq_is z p e)) ∙ nat_eq_same z)
-        (λ e. ap (λ w. nat_eq w p) (sym (nat_eq_is p z e)) ∙ nat_eq_same p)
-
-    there : (z : ℕ) → (nat_eq p z || (has s z && not (nat_eq z p))) ≡ has s z
-    there z = elim (two (nat_eq p z)) [
-      | inl e ↦ ap (λ b. b || (has s z && not (nat_eq z p))) e ∙ sym (ap (has s) (sym (nat_eq_is p z e)) ∙ h)
-      | inr e ↦ ap (λ b. b || (has s z && not (nat_eq z p))) e ∙ ap (λ b. has s z && not b) (swapped z ∙ e) ∙ and_true (has s z)
-    ]
-      where
-        and_true : (b : Bool) → (b && true) ≡ b
-        and_true true = refl
-        and_true false = refl
-
 row_parts : (p n : ℕ) (row s : List ℕ) → IsRow p row → (listed (subsets_of (suc n) row) s && has s p) ≡ listed (map (λ t. with t p) (subsets_of n (without row p))) s
 row_parts p n row s h = both_ways (listed (subsets_of (suc n) row) s && has s p) (listed (map (λ t. with t p) (subsets_of n (without row p))) s) forth back
   where
@@ -122,7 +101,7 @@ row_parts p n row s h = both_ways (listed (subsets_of (suc n) row) s && has s p)
               has-without row p z ∙ both_true (holds_has row s z c.part (first_so (has s z) (not (nat_eq z p)) u)) (second_so (has s z) (not (nat_eq z p)) u));
           size = let k : length (without s p) ≡ n = omega (arith, length-without s p c.rises there, c.size) in k;
         } in
-        ap (listed (map (λ t. with t p) (subsets_of n (without row p)))) (sym (with_without s p c.rises there))
+        ap (listed (map (λ t. with t p) (subsets_of n (without row p)))) (sym (with_back s p c.rises there))
         ∙ map_from (λ t. with t p) (subsets_of n (without row p)) (without s p) (chosen_from n (without row p) (without s p) (sorted_row p row h) part)
 
     back : listed (map (λ t. with t p) (subsets_of n (without row p))) s ≡ true → (listed (subsets_of (suc n) row) s && has s p) ≡ true
@@ -206,14 +185,6 @@ few_of_row zero [] h = omega arith
 few_of_row (suc n) [] h = omega arith
 few_of_row n (x ∷ xs) h = half n xs x 5 (let g : length xs ≤ 5 = omega (arith, h) in g)
 
-length_put : (s : List ℕ) (ss : List (List ℕ)) → length (put face_cmp s ss) ≤ length ss + 1
-length_put s [] = omega arith
-length_put s (x ∷ xs) = elim (face_cmp s x) as (λ r. length (match_ordering r (s ∷ x ∷ xs) (x ∷ xs) (x ∷ put face_cmp s xs)) ≤ length (x ∷ xs) + 1) [ Less ↦ omega arith | Equal ↦ omega arith | Greater ↦ omega (arith, length_put s xs) ]
-
-length_rising : (ss : List (List ℕ)) → length (rising face_cmp ss) ≤ length ss
-length_rising [] = omega arith
-length_rising (s ∷ ss) = omega (arith, length_put s (rising face_cmp ss), length_rising ss)
-
 few_of_rows : (p n : ℕ) (rows : List (List ℕ)) → AllByRecursion (IsRow p) rows → length (flat_map (λ row. subsets_of n (without row p)) rows) ≤ 32 * length rows
 few_of_rows p n [] h = omega arith
 few_of_rows p n (row ∷ rows) h =
@@ -228,7 +199,7 @@ pub few_faces : (rows : List (List ℕ)) (p n : ℕ) → AreRows p rows → leng
 unfolding parts_of
 few_faces rows p n h =
     let parts : List (List ℕ) = flat_map (λ row. subsets_of n (without row p)) rows in
-    omega (arith, ap length (faces_are rows p n h), length-map (rising face_cmp parts) (λ s. with s p), length_rising parts, few_of_rows p n rows h.1)
+    omega (arith, ap length (faces_are rows p n h), length-map (rising face_cmp parts) (λ s. with s p), rising_length parts, few_of_rows p n rows h.1)
 
 sized_map : (p n : ℕ) (ts : List (List ℕ)) → AllByRecursion (IsPart p n) ts → AllByRecursion (λ a. length a ≡ n + 1) (map (λ s. with s p) ts)
 sized_map p n [] h = tt

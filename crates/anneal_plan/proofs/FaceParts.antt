@@ -1,5 +1,5 @@
 -- The faces of a star that have its vertex, without the vertex.
-use Rattle.std.proofs.Common.{◌≡◌, inl, inr, ℕ, ◌≤◌, Bool, true, false, not, nat_eq, ◌||◌, ◌&&◌, List, [], ◌∷◌, length, sym, ◌∙◌, ap, refl, arith}
+use Rattle.std.proofs.Common.{◌≡◌, inl, inr, ℕ, ◌≤◌, true, false, not, nat_eq, ◌||◌, List, [], ◌∷◌, length, sym, ◌∙◌, ap, refl, arith}
 use Rattle.std.specs.List.{AllByRecursion, list_any, flat_map}
 use Rattle.std.specs.List.Sorted.{IsStrictlySortedBy}
 use Rattle.std.specs.Cmp.Lexicographic.{nat_list_cmp_total}
@@ -9,10 +9,11 @@ use Rattle.complex_core.specs.Rising.{rising}
 use Rattle.complex_core.specs.Subsets.{subsets_of}
 use Rattle.complex_core.proofs.Sets.{above_tail, sorted_rising}
 use Rattle.complex_core.proofs.Faces.{face_filter}
-use Rattle.complex_core.proofs.Laws.{nat_eq_same, has-without, holds_has, listed, listed-rising, length-without, sorted_without}
+use Rattle.complex_core.proofs.Laws.{holds_has, listed, listed-rising, length-without, sorted_without}
 use Rattle.complex_core.proofs.SubsetLists.{two, clash, Chosen, chosen_is, fewer, part_is_face}
-use Rattle.stars.proofs.Listing.{listed-flat_map}
 use Rattle.anneal_plan.specs.Faces.{IsRow, AreRows}
+use Rattle.complex_core.proofs.Members.{without_gone}
+use Rattle.complex_core.proofs.SetLists.{listed-flat_map}
 
 -- the sets of n labels of the rows, each without the vertex, rising
 unfoldable pub parts_of : List (List ℕ) → ℕ → ℕ → List (List ℕ)
@@ -29,20 +30,13 @@ pub record IsPart (p n : ℕ) (s : List ℕ) : Type 0 where
   pub apart : has s p ≡ false
   pub few : length s ≤ 6
 
-no_vertex : (row : List ℕ) (p : ℕ) → has (without row p) p ≡ false
-no_vertex row p = has-without row p p ∙ ap (λ b. has row p && not b) (nat_eq_same p) ∙ and_false (has row p)
-  where
-    and_false : (b : Bool) → (b && false) ≡ false
-    and_false true = refl
-    and_false false = refl
-
 pub part_row : (p n : ℕ) (row s : List ℕ) → IsRow p row → listed (subsets_of n (without row p)) s ≡ true → IsPart p n s
 part_row p n row s h t =
     let c : Chosen n (without row p) s = chosen_is n (without row p) s (sorted_row p row h) t in
     record {
       face = part_is_face (without row p) s (face_filter (λ y. not (nat_eq y p)) row h.face) c.rises c.part;
       size = c.size;
-      apart = elim (two (has s p)) [ inl e ↦ clash (has (without row p) p) (holds_has (without row p) s p c.part e) (no_vertex row p) | inr e ↦ e ];
+      apart = elim (two (has s p)) [ inl e ↦ clash (has (without row p) p) (holds_has (without row p) s p c.part e) (without_gone row p) | inr e ↦ e ];
       few = omega (arith, fewer s (without row p) c.rises (sorted_row p row h) c.part, length-without row p (above_tail nat_cmp 0 row h.face.rising) h.held, h.few);
     }
 

@@ -30,9 +30,11 @@ use Rattle.stars.specs.StarViews.{VertexStar, IsStar}
 use Rattle.stars.specs.Candidates.{flip_of, opposite, is_candidate, faces_at, candidate_faces}
 use Rattle.anneal_plan.specs.Proposals.{inner, entering, candidates, chosen, first_chosen, falling}
 use Rattle.anneal_plan.specs.Fits.{FitsStar, OnlyBCanBreak}
-use Rattle.stars.proofs.Listing.{listed-flat_map, each_listed}
-use Rattle.anneal_plan.proofs.Gaps.{labels_above}
-use Rattle.stars.proofs.Gathered.{all_of, apart, has-less, sorted_opposite}
+use Rattle.stars.proofs.Gathered.{all_of, apart, sorted_opposite}
+use Rattle.complex_core.proofs.Sorting.{each_filter}
+use Rattle.complex_core.proofs.Renaming.{labels_above}
+use Rattle.complex_core.proofs.Members.{has-less}
+use Rattle.complex_core.proofs.SetLists.{listed-flat_map, of_kind, used_label}
 
 -- ---- facts of members
 
@@ -42,24 +44,6 @@ all_listed all (x ∷ xs) h = (
   h x (or_left (pointwise nat_eq x x) (listed xs x) (same_set_itself x)),
   all_listed all xs (λ a t. h a (or_right (pointwise nat_eq x a) (listed xs a) t)),
 )
-
-pub each_filter : (P : List ℕ → Type 0) (q : List ℕ → Bool) (xs : List (List ℕ)) → AllByRecursion P xs → AllByRecursion P (filter q xs)
-each_filter P q [] h = tt
-each_filter P q (x ∷ xs) h = elim (q x) as (λ b. AllByRecursion P (cond b (x ∷ filter q xs) (filter q xs))) [
-  | true ↦ (h.0, each_filter P q xs h.1)
-  | false ↦ each_filter P q xs h.1
-]
-
--- a label of a facet is used
-used_by : (rows : List (List ℕ)) (a : List ℕ) (z : ℕ) → listed rows a ≡ true → has a z ≡ true → has (used rows) z ≡ true
-used_by rows a z t h = any-rising nat_cmp equal_cmp (λ y. nat_eq y z) (all_of rows) ∙ in_all rows t
-  where
-    in_all : (fs : List (List ℕ)) → listed fs a ≡ true → has (all_of fs) z ≡ true
-    in_all [] u = clash true refl (sym u)
-    in_all (f ∷ fs) u = list_any-append (λ y. nat_eq y z) f (all_of fs) ∙ elim (two (pointwise nat_eq f a)) [
-      | inl e ↦ or_left (has f z) (has (all_of fs) z) (ap (λ g. has g z) (same_sets_is f a e) ∙ h)
-      | inr e ↦ or_right (has f z) (has (all_of fs) z) (in_all fs (sym (ap (λ b. b || listed fs a) e) ∙ u))
-    ]
 
 -- a label that some facets use is used by all of them
 used_among : (rows : List (List ℕ)) (q : List ℕ → Bool) (z : ℕ) → has (used (filter q rows)) z ≡ true → has (used rows) z ≡ true
@@ -97,7 +81,7 @@ over_itself d rows a r pure t =
     (λ f. listed-filter (λ g. holds g a) rows f ∙ both_ways (listed rows f && holds f a) (pointwise nat_eq a f || false)
     (λ u.
     let there : listed rows f ≡ true = first_so (listed rows f) (holds f a) u in
-    let g : IsFacet d f = each_listed (IsFacet d) rows f pure there in
+    let g : IsFacet d f = of_kind (IsFacet d) rows f pure there in
     let e : f ≡ a = same_size f a (above_tail nat_cmp 0 f g.face.rising) (above_tail nat_cmp 0 a own.face.rising) (g.size ∙ sym own.size) (second_so (listed rows f) (holds f a) u) in
     or_left (pointwise nat_eq a f) false (ap (pointwise nat_eq a) e ∙ same_set_itself a))
     (λ u.
@@ -105,7 +89,7 @@ over_itself d rows a r pure t =
     ap (λ g. listed rows g && holds g a) (sym e) ∙ both_true t (holds_each a a (λ z v. v))))
   where
     own : IsFacet d a
-    own = each_listed (IsFacet d) rows a pure t
+    own = of_kind (IsFacet d) rows a pure t
 
     one : (b : Bool) → (b || false) ≡ true → b ≡ true
     one true u = refl
@@ -116,9 +100,9 @@ side_itself a x = ap (λ b. union a (cond (not b) (x ∷ []) []) ∷ []) (nat_eq
 
 enter_one : (s : VertexStar) (free : List ℕ) (x : ℕ) (a : List ℕ) → IsStar s → 0 < x → has free x ≡ true → listed s.rows a ≡ true → has a x ≡ false → FitsStar s free (flip_of a (x ∷ []))
 enter_one s free x a h pos there t out =
-    let own : IsFacet s.dim a = each_listed (IsFacet s.dim) s.rows a h.pure t in
+    let own : IsFacet s.dim a = of_kind (IsFacet s.dim) s.rows a h.pure t in
     record {
-      vertex = each_listed (λ f. has f s.vertex ≡ true) s.rows a h.held t;
+      vertex = of_kind (λ f. has f s.vertex ≡ true) s.rows a h.held t;
       faces = record { first = own.face; second = record { few = omega arith; rising = above_cons nat_cmp 0 (x ∷ []) (cmp_less 0 x pos, tt) (above_cons nat_cmp x [] tt (sorted_none nat_cmp)) } };
       shape = record {
         first = λ z. omega (arith, z, own.size);
@@ -127,7 +111,7 @@ enter_one s free x a h pos there t out =
         sizes = omega (arith, own.size);
       };
       link = over_itself s.dim s.rows a h.rising h.pure t ∙ sym (side_itself a x);
-      first = λ z u. used_by s.rows a z t u;
+      first = λ z u. used_label s.rows a z t u;
       second = λ z u. or_right (has (used s.rows) z) (has free z) (ap (has free) (sym (nat_eq_is x z (one (nat_eq x z) u))) ∙ there);
     }
   where
@@ -166,13 +150,13 @@ record IsFaceAt (s : VertexStar) (n : ℕ) (a : List ℕ) : Type 0 where
 in_row : (s : VertexStar) (n : ℕ) (row a : List ℕ) → IsStar s → listed s.rows row ≡ true → listed (filter (λ t. has t s.vertex) (subsets_of n row)) a ≡ true → IsFaceAt s n a
 in_row s n row a h there t =
     let both : (listed (subsets_of n row) a && has a s.vertex) ≡ true = sym (listed-filter (λ f. has f s.vertex) (subsets_of n row) a) ∙ t in
-    let own : IsFacet s.dim row = each_listed (IsFacet s.dim) s.rows row h.pure there in
+    let own : IsFacet s.dim row = of_kind (IsFacet s.dim) s.rows row h.pure there in
     let c : Chosen n row a = chosen_is n row a (above_tail nat_cmp 0 row own.face.rising) (first_so (listed (subsets_of n row) a) (has a s.vertex) both) in
     record {
       face = part_is_face row a own.face c.rises c.part;
       held = second_so (listed (subsets_of n row) a) (has a s.vertex) both;
       size = c.size;
-      used = λ z u. used_by s.rows row z there (holds_has row a z c.part u);
+      used = λ z u. used_label s.rows row z there (holds_has row a z c.part u);
     }
 
 in_rows : (s : VertexStar) (n : ℕ) (a : List ℕ) (rows : List (List ℕ)) → IsStar s → AllByRecursion (λ f. listed s.rows f ≡ true) rows → list_any (λ row. listed (filter (λ t. has t s.vertex) (subsets_of n row)) a) rows ≡ true → IsFaceAt s n a

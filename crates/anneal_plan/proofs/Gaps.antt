@@ -7,14 +7,15 @@ use Rattle.std.specs.declared.cmp.Ordering.TheVariants.{Less}
 use Rattle.std.proofs.lemmas.Cmp.{nat_cmp_total}
 use Rattle.std.proofs.lemmas.List.{append-nil, drop_all}
 use Rattle.complex_core.specs.Labels.{IsRising, has}
-use Rattle.complex_core.specs.Spaces.{Space, IsComplex, IsFacet}
+use Rattle.complex_core.specs.Spaces.{Space, IsComplex}
 use Rattle.complex_core.specs.Maps.{used, next_after}
 use Rattle.complex_core.proofs.Sets.{Above, above_cons, above_head, above_tail, above_lower, each_rising, sorted_rising}
-use Rattle.complex_core.proofs.Sorting.{each_append}
 use Rattle.complex_core.proofs.Faces.{cmp_less, less_cmp, drop_next}
 use Rattle.complex_core.proofs.Laws.{above_not, nat_eq_same, nat_eq_is}
 use Rattle.complex_core.proofs.SubsetLists.{two, clash}
 use Rattle.anneal_plan.specs.Places.{free_of}
+use Rattle.complex_core.proofs.Renaming.{labels_above}
+use Rattle.anneal_plan.proofs.WordLists.{left_suc}
 
 -- the numbers after n, so many of them, that a rising list of greater numbers leaves out
 abbrev pub gaps : ℕ → ℕ → List ℕ → List ℕ
@@ -58,10 +59,6 @@ gaps_are n (suc k) (u ∷ us) s =
 
 -- ---- the labels of a complex
 
-pub labels_above : (d : ℕ) (fs : List (List ℕ)) → AllByRecursion (IsFacet d) fs → AllByRecursion (λ y. nat_cmp 0 y ≡ Less) (flat_map (λ f. f) fs)
-labels_above d [] h = tt
-labels_above d (f ∷ fs) h = each_append (λ y. nat_cmp 0 y ≡ Less) f (flat_map (λ g. g) fs) (above_head nat_cmp 0 f h.0.face.rising) (labels_above d fs h.1)
-
 pub used_rising : (k : Space) → IsComplex k → IsRising (used k.facets)
 used_rising k h = above_cons nat_cmp 0 (used k.facets) (each_rising nat_cmp (λ y. nat_cmp 0 y ≡ Less) (flat_map (λ f. f) k.facets) (labels_above k.dim k.facets h.pure)) (sorted_rising nat_cmp_total (flat_map (λ f. f) k.facets))
 
@@ -69,9 +66,6 @@ pub free_is : (k : Space) (places : ℕ) (us : List ℕ) → IsComplex k → us 
 free_is k places us h e = gaps_are 0 places (used k.facets) (used_rising k h) ∙ ap (gaps 0 places) (sym e)
 
 -- ---- one step of the walk
-
-left_suc : (n i : ℕ) → i < n → n - i ≡ suc (n - (i + 1))
-left_suc n i h = omega arith
 
 -- the number is the next of the list
 pub gap_passed : (all items us new : List ℕ) (i n at next x : ℕ) → i < n → at < length us → x ≡ get_or us at x → x ≡ i + 1 → new ≡ items → next ≡ at + 1 → all ≡ items ++ gaps i (n - i) (drop at us) → all ≡ new ++ gaps (i + 1) (n - (i + 1)) (drop next us)

@@ -19,18 +19,20 @@ use Rattle.complex_core.specs.Maps.{used}
 use Rattle.complex_core.specs.Links.{less}
 use Rattle.complex_core.specs.Subsets.{subsets_of}
 use Rattle.complex_core.proofs.Sets.{Above, above_head, above_tail, above_cons, above_lower, sorted_none, sorted_put, sorted_rising}
-use Rattle.complex_core.proofs.Faces.{cmp_less, cmp_equal, less_cmp}
+use Rattle.complex_core.proofs.Faces.{cmp_less, less_cmp}
 use Rattle.complex_core.proofs.Laws.{both_ways, both_false, nat_eq_is, nat_eq_same, has-with, has-without, has-union, or_left, or_right, holds_has, holds_each, listed, listed-append, same_lists, same_labels, same_set_itself, sorted_union}
-use Rattle.complex_core.proofs.SubsetLists.{two, clash, chosen_is, chosen_from}
+use Rattle.complex_core.proofs.SubsetLists.{two, clash, chosen_is, chosen_from, above_map, above_both}
 use Rattle.flip_rules.specs.Flips.{sides, has_shape, same_sets}
 use Rattle.flip_rules.proofs.Legal.{verdict}
-use Rattle.flip_rules.proofs.Near.{held_near}
 use Rattle.stars.specs.Candidates.{flip_of, faces_at, flip_at}
 use Rattle.anneal_plan.specs.Faces.{IsRow, AreRows, flips_at}
 use Rattle.anneal_plan.specs.Growth.{comes_next, next_labels, grown}
-use Rattle.anneal_plan.proofs.NextLabels.{in_any, lt_true, lt_from, has_next}
+use Rattle.anneal_plan.proofs.NextLabels.{in_any, has_next}
 use Rattle.anneal_plan.proofs.FaceParts.{parts_of, IsPart, part_of, sorted_row, listed-parts_of, sorted_parts}
 use Rattle.anneal_plan.proofs.AllFaces.{faces_are}
+use Rattle.std.proofs.lemmas.Bool.{not-true, ltb-true, lt-ltb}
+use Rattle.complex_core.proofs.Runs.{held_alike}
+use Rattle.complex_core.proofs.SetLists.{listed-begun}
 
 -- ---- one label more keeps the facets that have it
 
@@ -57,7 +59,7 @@ over_with (r ∷ rows) a y =
 
 flip_alike : (d : ℕ) (near rows : List (List ℕ)) (a : List ℕ) → over near a ≡ over rows a → flip_at d near a ≡ flip_at d rows a
 flip_alike d near rows a e = λ i. cond
-    (is_ok (verdict (has_shape d a (less (used (e i)) a)) (held_near near rows a e i) (same_sets (e i) (rising face_cmp (sides a (less (used (e i)) a)))) (is_held [] (less (used (e i)) a))))
+    (is_ok (verdict (has_shape d a (less (used (e i)) a)) (held_alike near rows a e i) (same_sets (e i) (rising face_cmp (sides a (less (used (e i)) a)))) (is_held [] (less (used (e i)) a))))
     (Some (flip_of a (less (used (e i)) a)))
     None
 
@@ -102,14 +104,6 @@ above_begun : (x y : ℕ) (s : List ℕ) (ts : List (List ℕ)) → nat_cmp x y 
 above_begun x y s [] l = tt
 above_begun x y s (t ∷ ts) l = (ap (λ r. ordering_then r (face_cmp s t)) l, above_begun x y s ts l)
 
-above_tails : (x : ℕ) (s : List ℕ) (ts : List (List ℕ)) → Above face_cmp s ts → Above face_cmp (x ∷ s) (map (λ t. x ∷ t) ts)
-above_tails x s [] a = tt
-above_tails x s (t ∷ ts) a = (ap (λ r. ordering_then r (face_cmp s t)) (cmp_equal x x refl) ∙ a.0, above_tails x s ts a.1)
-
-above_both : (s : List ℕ) (ss ts : List (List ℕ)) → Above face_cmp s ss → Above face_cmp s ts → Above face_cmp s (ss ++ ts)
-above_both s [] ts a b = b
-above_both s (r ∷ ss) ts a b = (a.0, above_both s ss ts a.1 b)
-
 above_all : (f : ℕ → List (List ℕ)) (x : ℕ) (s : List ℕ) (ys : List ℕ) → Above nat_cmp x ys → Above face_cmp (x ∷ s) (flat_map (λ y. map (λ t. y ∷ t) (f y)) ys)
 above_all f x s [] a = tt
 above_all f x s (y ∷ ys) a =
@@ -119,7 +113,7 @@ sorted_both : (x : ℕ) (ss ts : List (List ℕ)) → IsStrictlySortedBy face_cm
 sorted_both x [] ts r q a = q
 sorted_both x (s ∷ ss) ts r q a =
     above_cons face_cmp (x ∷ s) (map (λ t. x ∷ t) ss ++ ts)
-    (above_both (x ∷ s) (map (λ t. x ∷ t) ss) ts (above_tails x s ss (above_head face_cmp s ss r)) (a s))
+    (above_both (x ∷ s) (map (λ t. x ∷ t) ss) ts (above_map x s ss (above_head face_cmp s ss r)) (a s))
     (sorted_both x ss ts (above_tail face_cmp s ss r) q a)
 
 sorted_begun : (f : ℕ → List (List ℕ)) (xs : List ℕ) → IsStrictlySortedBy nat_cmp xs → ((x : ℕ) → IsStrictlySortedBy face_cmp (f x)) → IsStrictlySortedBy face_cmp (flat_map (λ y. map (λ s. y ∷ s) (f y)) xs)
@@ -147,18 +141,6 @@ comes : (rows : List (List ℕ)) (p last : ℕ) (a : List ℕ) (z : ℕ) → has
 comes rows p last a z = has_next rows p last a z ∙ ap (λ b. b && comes_next p last z) (any_over rows a z)
 
 -- ---- which sets are begun by some labels
-
-listed-begun : (y z : ℕ) (s : List ℕ) (ts : List (List ℕ)) → listed (map (λ t. y ∷ t) ts) (z ∷ s) ≡ (nat_eq y z && listed ts s)
-listed-begun y z s [] = sym (and_false (nat_eq y z))
-  where
-    and_false : (b : Bool) → (b && false) ≡ false
-    and_false true = refl
-    and_false false = refl
-listed-begun y z s (t ∷ ts) = ap (λ b. (nat_eq y z && pointwise nat_eq t s) || b) (listed-begun y z s ts) ∙ one_head (nat_eq y z) (pointwise nat_eq t s) (listed ts s)
-  where
-    one_head : (a b c : Bool) → ((a && b) || (a && c)) ≡ (a && (b || c))
-    one_head true b c = refl
-    one_head false b c = refl
 
 listed-all : (f : ℕ → List (List ℕ)) (xs : List ℕ) (z : ℕ) (s : List ℕ) → listed (flat_map (λ y. map (λ t. y ∷ t) (f y)) xs) (z ∷ s) ≡ (has xs z && listed (f z) s)
 listed-all f [] z s = refl
@@ -205,10 +187,6 @@ one_more rows a s z = λ i. list_any (λ r. (ap (λ b. b && holds r s) (holds_wi
     turned false true w = refl
     turned false false w = refl
 
-not_true : (b : Bool) → not b ≡ true → b ≡ false
-not_true true e = sym e
-not_true false e = refl
-
 grows_is : (rows : List (List ℕ)) (p n last : ℕ) (a s : List ℕ) → is_held rows a ≡ true → listed (parts rows p n last a) s ≡ true → Grows rows p n last a s
 grows_is rows p zero last a [] h t = record {
   rises = above_cons nat_cmp last [] tt (sorted_none nat_cmp);
@@ -224,14 +202,14 @@ grows_is rows p (suc n) last a (z ∷ s) h t =
     let u : (has (next_labels rows p last a) z && more) ≡ true = sym (listed-all (λ y. parts rows p n y (with a y)) (next_labels rows p last a) z s) ∙ t in
     let v : (some && comes_next p last z) ≡ true = sym (comes rows p last a z) ∙ first_so (has (next_labels rows p last a) z) more u in
     let c : (nat_lt last z && not (nat_eq z p)) ≡ true = second_so some (comes_next p last z) v in
-    let above : nat_cmp last z ≡ Less = cmp_less last z (lt_true last z (first_so (nat_lt last z) (not (nat_eq z p)) c)) in
+    let above : nat_cmp last z ≡ Less = cmp_less last z (ltb-true last z (first_so (nat_lt last z) (not (nat_eq z p)) c)) in
     let there : is_held rows (with a z) ≡ true = some_also (λ r. holds r a && has r z) (λ r. holds r (with a z)) rows
     (λ r e. holds_with r a z ∙ both_true (second_so (holds r a) (has r z) e) (first_so (holds r a) (has r z) e))
     (first_so some (comes_next p last z) v) in
     let g : Grows rows p n z (with a z) s = grows_is rows p n z (with a z) s there (second_so (has (next_labels rows p last a) z) more u) in
     record {
       rises = above_cons nat_cmp last (z ∷ s) (above, above_lower nat_cmp_total last z s above (above_head nat_cmp z s g.rises)) g.rises;
-      apart = both_false (not_true (nat_eq z p) (second_so (nat_lt last z) (not (nat_eq z p)) c)) g.apart;
+      apart = both_false (not-true (nat_eq z p) (second_so (nat_lt last z) (not (nat_eq z p)) c)) g.apart;
       size = ap suc g.size;
       held = sym (one_more rows a s z) ∙ g.held;
     }
@@ -250,7 +228,7 @@ grows_from rows p (suc n) last a (z ∷ s) g =
     let some : list_any (λ r. holds r a && has r z) rows ≡ true = some_also (λ r. holds r a && holds r (z ∷ s)) (λ r. holds r a && has r z) rows
     (λ r e. both_true (first_so (holds r a) (holds r (z ∷ s)) e) (first_so (has r z) (holds r s) (second_so (holds r a) (holds r (z ∷ s)) e)))
     g.held in
-    let above : nat_lt last z ≡ true = lt_from last z (less_cmp last z (above_head nat_cmp last (z ∷ s) g.rises).0) in
+    let above : nat_lt last z ≡ true = lt-ltb last z (less_cmp last z (above_head nat_cmp last (z ∷ s) g.rises).0) in
     listed-all (λ y. parts rows p n y (with a y)) (next_labels rows p last a) z s
     ∙ both_true
     (comes rows p last a z ∙ both_true some (both_true above (ap not (first_false (nat_eq z p) (has s p) g.apart))))

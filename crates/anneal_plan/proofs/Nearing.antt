@@ -17,8 +17,9 @@ use Rattle.complex_core.proofs.Faces.{less_cmp, cmp_less}
 use Rattle.complex_core.proofs.Laws.{both_ways, nat_eq_is, nat_eq_same, or_left, or_right, same_labels}
 use Rattle.complex_core.proofs.SubsetLists.{two, clash, above_at}
 use Rattle.anneal_plan.specs.Growth.{comes_next, next_labels}
-use Rattle.anneal_plan.proofs.NextLabels.{in_any, lt_true, lt_false, lt_from, has_next}
+use Rattle.anneal_plan.proofs.NextLabels.{in_any, has_next}
 use Rattle.anneal_plan.specs.Nearest.{Next, nothing_yet, started, joined, nearer, met, seen, nearest}
+use Rattle.std.proofs.lemmas.Bool.{ltb-true, ltb-false, lt-ltb}
 
 -- ---- the least label of a facet
 
@@ -154,7 +155,7 @@ passes rows row p last near (Some y) n h = record {
 nears : (rows : List (List ℕ)) (row : List ℕ) (p last x : ℕ) (near : Next) (label : Option ℕ) → LeastOf p last row (Some x) → near.label ≡ label → IsNearest rows p last near label → IsNearest (rows ++ row ∷ []) p last (nearer near row x label) (nearer near row x label).label
 nears rows row p last x near None r e h = begins rows row p last x r (λ z t i. clash (in_any rows z) i (h z t))
 nears rows row p last x near (Some y) r e h = elim (two (nat_lt y x)) [
-  | inl t ↦ put (sym (ap (λ b. if b then near else tied) t)) (at (sym e) (stays rows row p last x y near r (lt_true y x t) h))
+  | inl t ↦ put (sym (ap (λ b. if b then near else tied) t)) (at (sym e) (stays rows row p last x y near r (ltb-true y x t) h))
   | inr f ↦ elim (two (nat_eq y x)) [
     | inl s ↦
         let same : y ≡ x = nat_eq_is y x s in
@@ -162,7 +163,7 @@ nears rows row p last x near (Some y) r e h = elim (two (nat_lt y x)) [
         put (sym (ap (λ b. if b then near else tied) f ∙ ap (λ b. if b then joined near row else started row x) s)) (kept (nat_eq (length near.rows) 256) (joins rows row p last y near (subst Q (sym same) r) h))
     | inr n ↦
         put (sym (ap (λ b. if b then near else tied) f ∙ ap (λ b. if b then joined near row else started row x) n))
-        (begins rows row p last x r (λ z t i. omega (arith, h.least z t i, lt_false y x f, differ n)))
+        (begins rows row p last x r (λ z t i. omega (arith, h.least z t i, ltb-false y x f, differ n)))
   ]
 ]
   where
@@ -219,7 +220,7 @@ nearest_is rows p last a s = all_seen [] rows a p last nothing_yet s (λ z t. re
 next_above : (p x : ℕ) (xs : List ℕ) → Above nat_cmp x (filter (comes_next p x) xs)
 next_above p x [] = tt
 next_above p x (y ∷ ys) = elim (two (comes_next p x y)) [
-  | inl t ↦ let P : Bool → Type 0 = λ b. Above nat_cmp x (cond b (y ∷ filter (comes_next p x) ys) (filter (comes_next p x) ys)) in subst P (sym t) (cmp_less x y (lt_true x y (first_so (nat_lt x y) (not (nat_eq y p)) t)), next_above p x ys)
+  | inl t ↦ let P : Bool → Type 0 = λ b. Above nat_cmp x (cond b (y ∷ filter (comes_next p x) ys) (filter (comes_next p x) ys)) in subst P (sym t) (cmp_less x y (ltb-true x y (first_so (nat_lt x y) (not (nat_eq y p)) t)), next_above p x ys)
   | inr f ↦ let P : Bool → Type 0 = λ b. Above nat_cmp x (cond b (y ∷ filter (comes_next p x) ys) (filter (comes_next p x) ys)) in subst P (sym f) (next_above p x ys)
 ]
 
@@ -258,7 +259,7 @@ label_first rows p last x a near h =
           | inl e ↦ or_left (nat_eq x z) (in_any (over rows a) z && comes_next p x z) e
           | inr e ↦
               or_right (nat_eq x z) (in_any (over rows a) z && comes_next p x z)
-              (both_true there (both_true (lt_from x z (let l : x < z = omega (arith, h.least z next there, differ z e) in l)) (second_so (nat_lt last z) (not (nat_eq z p)) next)))
+              (both_true there (both_true (lt-ltb x z (let l : x < z = omega (arith, h.least z next there, differ z e) in l)) (second_so (nat_lt last z) (not (nat_eq z p)) next)))
         ]
       where
         differ : (w : ℕ) → nat_eq x w ≡ false → x ≢ w
@@ -273,8 +274,8 @@ label_first rows p last x a near h =
           let u : (in_any (over rows a) z && comes_next p x z) ≡ true = sym (ap (λ b. b || (in_any (over rows a) z && comes_next p x z)) e) ∙ t in
           let v : comes_next p x z ≡ true = second_so (in_any (over rows a) z) (comes_next p x z) u in
           both_true (first_so (in_any (over rows a) z) (comes_next p x z) u)
-          (both_true (lt_from last z (let l : last < z = omega (arith, lt_true last x (first_so (nat_lt last x) (not (nat_eq x p)) h.next), lt_true x z (first_so (nat_lt x z) (not (nat_eq z p)) v)) in l)) (second_so (nat_lt x z) (not (nat_eq z p)) v))
+          (both_true (lt-ltb last z (let l : last < z = omega (arith, ltb-true last x (first_so (nat_lt last x) (not (nat_eq x p)) h.next), ltb-true x z (first_so (nat_lt x z) (not (nat_eq z p)) v)) in l)) (second_so (nat_lt x z) (not (nat_eq z p)) v))
     ]
 
 pub label_above : (rows : List (List ℕ)) (p last x : ℕ) (near : Next) → Leads rows p last x near → last < x
-label_above rows p last x near h = lt_true last x (first_so (nat_lt last x) (not (nat_eq x p)) h.next)
+label_above rows p last x near h = ltb-true last x (first_so (nat_lt last x) (not (nat_eq x p)) h.next)

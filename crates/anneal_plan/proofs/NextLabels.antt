@@ -1,8 +1,7 @@
 -- Which labels may come next.
-use Rattle.std.proofs.Common.{◌≡◌, ℕ, ◌<◌, ◌≤◌, Bool, true, false, nat_eq, nat_lt, ◌||◌, ◌&&◌, cond, List, [], ◌∷◌, filter, sym, ◌∙◌, ap, refl, arith}
+use Rattle.std.proofs.Common.{◌≡◌, ℕ, Bool, true, false, nat_eq, ◌||◌, ◌&&◌, cond, List, [], ◌∷◌, filter, sym, ◌∙◌, ap, refl}
 use Rattle.std.specs.List.{list_any, flat_map}
 use Rattle.std.specs.Ordering.{nat_cmp}
-use Rattle.std.proofs.lemmas.Bool.Decides.{nat_tests}
 use Rattle.std.proofs.lemmas.List.Folds.{list_any-append}
 use Rattle.complex_core.specs.Labels.{has}
 use Rattle.complex_core.specs.Spaces.{over}
@@ -15,15 +14,6 @@ use Rattle.anneal_plan.specs.Growth.{comes_next, next_labels}
 -- whether some facet has a label
 abbrev pub in_any : List (List ℕ) → ℕ → Bool
 in_any rows z = list_any (λ r. has r z) rows
-
-pub lt_true : (x y : ℕ) → nat_lt x y ≡ true → x < y
-lt_true x y e = grind (arith, nat_tests)
-
-pub lt_false : (x y : ℕ) → nat_lt x y ≡ false → y ≤ x
-lt_false x y e = grind (arith, nat_tests)
-
-pub lt_from : (x y : ℕ) → x < y → nat_lt x y ≡ true
-lt_from x y h = grind (arith, nat_tests)
 
 has-filter : (q : ℕ → Bool) (xs : List ℕ) (z : ℕ) → has (filter q xs) z ≡ (has xs z && q z)
 has-filter q [] z = refl

@@ -1,5 +1,5 @@
 -- A face with one label more, and then with the labels behind it.
-use Rattle.std.proofs.Common.{◌≡◌, inl, inr, ℕ, zero, suc, ◌+◌, ◌-◌, ◌*◌, ◌^◌, ◌<◌, ◌≤◌, ◌≢◌, true, false, Bool, cond, if◌then◌else◌, Option, Some, None, List, [], ◌∷◌, ◌++◌, length, filter, fold, sym, ◌∙◌, ap, refl, subst, arith, length-append}
+use Rattle.std.proofs.Common.{◌≡◌, ℕ, zero, suc, ◌+◌, ◌-◌, ◌*◌, ◌^◌, ◌<◌, ◌≤◌, ◌≢◌, true, false, Bool, if◌then◌else◌, Option, Some, None, List, [], ◌∷◌, ◌++◌, length, filter, fold, sym, ◌∙◌, ap, refl, subst, arith, length-append}
 use Rattle.std.specs.List.{AllByRecursion, flat_map, cons_option}
 use Rattle.std.specs.List.Sorted.{IsStrictlySortedBy}
 use Rattle.std.specs.Option.{SomeIff, IsSome}
@@ -10,7 +10,6 @@ use Rattle.complex_core.specs.Labels.{has, holds, with, face_cmp}
 use Rattle.complex_core.specs.Spaces.{over}
 use Rattle.complex_core.proofs.Sets.{above_tail}
 use Rattle.complex_core.proofs.Laws.{length_put_le}
-use Rattle.complex_core.proofs.SubsetLists.{two}
 use Rattle.flip_rules.specs.declared.flip.Flip.{Flip}
 use Rattle.stars.specs.Candidates.{flip_at, faces_at}
 use Rattle.anneal_plan.specs.Faces.{IsRow, AreRows, flips_at}
@@ -21,22 +20,13 @@ use Rattle.anneal_plan.proofs.AllFaces.{few_faces}
 use Rattle.anneal_plan.proofs.Nearing.{IsNearest, Leads, nearest_is, no_labels, label_first, label_above}
 use Rattle.anneal_plan.proofs.Growing.{over_with, grown_alike, grown_flips}
 use Rattle.anneal_plan.proofs.Pages.{fold-append, count-fold, paged}
+use Rattle.complex_core.proofs.Sorting.{each_filter}
+use Rattle.complex_core.proofs.SetLists.{over_twice}
 
 -- ---- the facets that are kept for a label
 
 abbrev pub Ordered : List (List ℕ) → Type 0
 Ordered rows = IsStrictlySortedBy face_cmp rows
-
-each_filter : (P : List ℕ → Type 0) (q : List ℕ → Bool) (rows : List (List ℕ)) → AllByRecursion P rows → AllByRecursion P (filter q rows)
-each_filter P q [] a = tt
-each_filter P q (x ∷ xs) a = elim (q x) as (λ b. AllByRecursion P (cond b (x ∷ filter q xs) (filter q xs))) [ true ↦ (a.0, each_filter P q xs a.1) | false ↦ each_filter P q xs a.1 ]
-
-over_twice : (rows : List (List ℕ)) (a : List ℕ) → over (over rows a) a ≡ over rows a
-over_twice [] a = refl
-over_twice (r ∷ rows) a = elim (two (holds r a)) [
-  | inl t ↦ ap (λ b. over (cond b (r ∷ over rows a) (over rows a)) a) t ∙ ap (λ b. cond b (r ∷ over (over rows a) a) (over (over rows a) a)) t ∙ ap (λ rs. r ∷ rs) (over_twice rows a) ∙ sym (ap (λ b. cond b (r ∷ over rows a) (over rows a)) t)
-  | inr f ↦ ap (λ b. over (cond b (r ∷ over rows a) (over rows a)) a) f ∙ over_twice rows a ∙ sym (ap (λ b. cond b (r ∷ over rows a) (over rows a)) f)
-]
 
 rises : (p : ℕ) (rows : List (List ℕ)) → AllByRecursion (IsRow p) rows → AllByRecursion (IsStrictlySortedBy nat_cmp) rows
 rises p [] h = tt

@@ -6,7 +6,7 @@ use Rattle.complex_core.specs.Labels.{has, holds, face_cmp}
 use Rattle.complex_core.specs.Spaces.{beside}
 use Rattle.complex_core.specs.Subsets.{subsets_of}
 use Rattle.complex_core.proofs.Sets.{each_rising}
-use Rattle.complex_core.proofs.Sorting.{each_append}
+use Rattle.complex_core.proofs.Sorting.{each_append, each_filter}
 use Rattle.complex_core.proofs.SubsetLists.{two}
 use Rattle.flip_rules.specs.Flips.{sides}
 use Rattle.flip_rules.specs.declared.flip.Flip.{Flip}
@@ -16,13 +16,13 @@ use Rattle.anneal_plan.specs.declared.plan.Phase.{Phase}
 use Rattle.stars.specs.Candidates.{flip_of, opposite, is_candidate, faces_at, candidate_faces}
 use Rattle.anneal_plan.specs.Proposals.{inner, entering, candidates, fresh_label, indices, proposal_of}
 use Rattle.anneal_plan.specs.Turns.{after_flip, after_flips, turns_from, turn_then, turn_count, turns, rest_after, TurnsStart, TurnsGoOn, TurnsStop, TurnsEnd, TurnsSplit, TurnsAreFew, TurnsHaveVertex}
-use Rattle.anneal_plan.proofs.Fitting.{first_fits, each_filter}
+use Rattle.anneal_plan.proofs.Fitting.{first_fits}
 
 pub turns_start : TurnsStart
 unfolding turns rest_after
 turns_start s phase words free depth = ap (λ n. turns_from n 0 s phase words free) (let e : turn_count words depth ≡ turn_count words depth - 0 = omega arith in e)
 
-after_more : (s : VertexStar) (front : List Flip) (f : Flip) → after_flip (after_flips s front) f ≡ after_flips s (front ++ f ∷ [])
+pub after_more : (s : VertexStar) (front : List Flip) (f : Flip) → after_flip (after_flips s front) f ≡ after_flips s (front ++ f ∷ [])
 after_more s [] f = refl
 after_more s (g ∷ front) f = after_more (after_flip s g) front f
 

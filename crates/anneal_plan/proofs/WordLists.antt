@@ -18,16 +18,16 @@ words-zero : (g : Lcg) → words_from g 0 ≡ []
 unfolding first_words
 words-zero g = refl
 
-after-suc : (n : ℕ) (g : Lcg) → after_words g (suc n) ≡ after_words (pcg32 g).1 n
+pub after-suc : (n : ℕ) (g : Lcg) → after_words g (suc n) ≡ after_words (pcg32 g).1 n
 unfolding state_after
 after-suc n g = refl
 
-after-zero : (g : Lcg) → after_words g 0 ≡ g
+pub after-zero : (g : Lcg) → after_words g 0 ≡ g
 unfolding state_after
 after-zero g = refl
 
 -- how many are left, with one taken
-left_suc : (n i : ℕ) → i < n → n - i ≡ suc (n - (i + 1))
+pub left_suc : (n i : ℕ) → i < n → n - i ≡ suc (n - (i + 1))
 left_suc n i h = omega arith
 
 -- what holds of a word and the generator after it
@@ -58,7 +58,7 @@ after_end n i start g l e = sym (e ∙ ap (after_words g) (let z : n - i ≡ 0 =
 
 -- ---- draw after draw
 
-after-add : (i n : ℕ) (g : Lcg) → after_words g (i + n) ≡ after_words (after_words g i) n
+pub after-add : (i n : ℕ) (g : Lcg) → after_words g (i + n) ≡ after_words (after_words g i) n
 after-add zero n g = ap (after_words g) (let e : 0 + n ≡ n = omega arith in e) ∙ ap (λ s. after_words s n) (sym (after-zero g))
 after-add (suc i) n g =
     ap (after_words g) (let e : suc i + n ≡ suc (i + n) = omega arith in e) ∙ after-suc (i + n) g ∙ after-add i n (pcg32 g).1 ∙ ap (λ s. after_words s n) (sym (after-suc i g))

@@ -6,8 +6,7 @@ use native.Mathlib.Decide.{ℕ_discrete}
 use lib.ListN.{get_elem?}
 use lib.Seq.{set-get_or}
 use prog.Atomic.{either}
-use Rattle.complex_core.specs.Spaces.{Space, IsComplex}
-use Rattle.stars.specs.StarViews.{UsesUpTo}
+use Rattle.complex_core.specs.Spaces.{Space}
 use Rattle.atomic_table.specs.Table.{step, rest, opening, Allows, Splits, Joins, Final, Seen, Act, keeps as stays, takes, gives, Valid, carried_after, stepped}
 use Rattle.atomic_table.proofs.Lists.{set_here, set_else, exchanged}
 use Rattle.flip_rules.specs.Entries.{JournalEntry}
@@ -29,7 +28,6 @@ use Rattle.board_rule.specs.declared.view.Chief.{Chief}
 use Rattle.board_rule.specs.declared.view.View.{View}
 use Rattle.board_rule.specs.declared.view.View.TheVariants.{Main, Pass, Spent}
 use Rattle.board_rule.proofs.Items.{off}
-use Rattle.board_rule.proofs.Sees as sees
 use Rattle.board_rule.proofs.Seats.{within}
 use Rattle.board_rule.proofs.Owning.{refused_by}
 use Rattle.board_rule.proofs.Writing.{written_as}
@@ -261,21 +259,3 @@ pub closes : (about : About) (id : ℕ) (m : View) (c : Chief) (words : List ℕ
 closes about id m c words slots is back f = closes_at about id c words slots back (subst (λ (x : View). Final (Seen (Ruled about) id x) words slots) is f)
 
 -- ---- what is known of the stars held after each step that tells nothing of them
-
-pub sees_new : (start : Space) (places worker : ℕ) → IsComplex start → UsesUpTo start places → Sees (newcomer start places worker)
-sees_new start places worker k within = sees.sees_new start places worker k within
-
-pub sees_lost : (v : Hand) (p o : ℕ) → Sees v → Sees (lost_by v p o)
-sees_lost v p o s = sees.sees_lost v p o s
-
-pub sees_counted : (v : Hand) (p o : ℕ) → Sees v → Sees (counted v p o)
-sees_counted v p o s = sees.sees_counted v p o s
-
-pub sees_journal : (v : Hand) (journal : List JournalEntry) → Sees v → Sees (with_journal v journal)
-sees_journal v journal s = sees.sees_journal v journal s
-
-pub sees_left : (v : Hand) → Sees v → Sees (without_journal v)
-sees_left v s = sees.sees_left v s
-
-pub sees_less : (v : Hand) (p : ℕ) → Sees v → Sees (without_item v p)
-sees_less v p s = sees.sees_less v p s

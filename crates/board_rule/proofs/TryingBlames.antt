@@ -18,7 +18,7 @@ use Rattle.board_rule.specs.declared.view.View.{View}
 use Rattle.board_rule.specs.declared.view.View.TheVariants.{Main, Pass, Spent}
 use Rattle.board_rule.proofs.Items.{off, has_more}
 use Rattle.board_rule.proofs.Seats.{within, one_pass}
-use Rattle.board_rule.proofs.TryingMarks.{keeps_item}
+use Rattle.board_rule.proofs.Owning.{keeps_star}
 
 -- ---- seats
 
@@ -75,7 +75,7 @@ won_last (t ∷ ts) p m h = by t.won refl
 
 -- the pass that has a place has won it
 pub won_holder : (views : List View) (c : Chief) (o p : ℕ) (v : Hand) → get_elem? views o ≡ some (Pass v) → Holds v → AllByRecursion Marked v.tries → 0 < p → keeps v p ≡ true → HasWon views c o p
-won_holder views c o p v at h marks pos has = inl (v, at, won_last v.tries p marks (h.among p (sym (keeps_item v p pos) ∙ has)))
+won_holder views c o p v at h marks pos has = inl (v, at, won_last v.tries p marks (h.among p (sym (keeps_star v p pos) ∙ has)))
 
 -- a word that isn't 0 names another pass where this one hasn't the place
 pub other_owner : (workers places : ℕ) (words : List ℕ) (views : List View) (c : Chief) (id : ℕ) (v : Hand) (p o : ℕ) → Owned workers places words views c → get_elem? views id ≡ some (Pass v) → keeps v p ≡ false

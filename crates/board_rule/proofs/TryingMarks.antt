@@ -1,5 +1,5 @@
 -- Marks, and what is held beside them, after each change.
-use Rattle.std.proofs.Common.{◌≡◌, ◌≢◌, ℕ, ◌<◌, ◌≤◌, eqb, Bool, true, false, cond, List, [], ◌∷◌, length, sym, refl, ap, ◌∙◌, subst, arith}
+use Rattle.std.proofs.Common.{◌≡◌, ◌≢◌, ℕ, ◌≤◌, eqb, Bool, true, false, cond, List, [], ◌∷◌, length, sym, refl, ap, ◌∙◌, subst, arith}
 use mathlib.Core.Option.{Option, some}
 use Rattle.std.specs.List.{AllByRecursion}
 use Rattle.complex_core.specs.Spaces.{Space}
@@ -7,12 +7,13 @@ use Rattle.flip_rules.specs.Entries.{JournalEntry}
 use Rattle.flip_rules.specs.Journals.{touches}
 use Rattle.board_rule.specs.Items.{item, has_item}
 use Rattle.board_rule.specs.Tries.{Try, won_try, lost_try, refused_at, noted_at, at_last, last_note, last_won, last_count, wins}
-use Rattle.board_rule.specs.Views.{home_at, keeps, Empty, newcomer, opened_by, lost_by, with_item, counted, with_journal, without_item, without_journal, committed}
+use Rattle.board_rule.specs.Views.{home_at, Empty, newcomer, opened_by, lost_by, with_item, counted, with_journal, without_item, without_journal, committed}
 use Rattle.board_rule.specs.Rule.{Knows, IsOther, Names, Marked, Claims, Holds}
 use Rattle.board_rule.specs.declared.about.About.{About}
 use Rattle.board_rule.specs.declared.data.Home.{Home}
 use Rattle.board_rule.specs.declared.view.Hand.{Hand}
 use Rattle.board_rule.proofs.Items.{tested, off, item_front, item_past, has_some, some_of, none_of, has_less, has_flipped}
+use Rattle.board_rule.proofs.Owning.{keeps_star}
 
 -- ---- lists of tries
 
@@ -83,15 +84,12 @@ marked_counted p o t m = record { won = m.won; lost = m.lost }
 
 -- ---- what a pass holds
 
-pub keeps_item : (v : Hand) (p : ℕ) → 0 < p → keeps v p ≡ has_item v.items p
-keeps_item v p pos = tested p 0 (λ b. cond b v.has_journal (has_item v.items p) ≡ has_item v.items p) (λ e. absurd (omega arith)) (λ _. refl)
-
 pub no_items : (about : About) (journal : List JournalEntry) (now : Space) (v : Hand) → Knows about journal now v → Empty v → (q : ℕ) → has_item v.items q ≡ false
 no_items about journal now v k empty q = by (has_item v.items q) refl
   where
     by : (b : Bool) → has_item v.items q ≡ b → has_item v.items q ≡ false
     by false h = h
-    by true h = let x = some_of v.items q h in let pos = (k.items q x.0 x.1).0 in off (sym (empty q) ∙ (keeps_item v q pos ∙ h))
+    by true h = let x = some_of v.items q h in let pos = (k.items q x.0 x.1).0 in off (sym (empty q) ∙ (keeps_star v q pos ∙ h))
 
 -- the mark of a claiming pass
 pub claiming_mark : (v : Hand) (t : Try) (ts : List Try) → Claims v → v.tries ≡ t ∷ ts → t.won ≡ true

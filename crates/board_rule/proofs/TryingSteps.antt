@@ -23,8 +23,9 @@ use Rattle.board_rule.proofs.Items.{off}
 use Rattle.board_rule.proofs.Seats.{same_pass}
 use Rattle.board_rule.proofs.TryingEntries.{every, mine_more, mine_same, touches_more}
 use Rattle.board_rule.proofs.TryingNotes.{none_yet, noted_new, noted_lost, noted_more, noted_counted, noted_commit, noted_beside, claiming_items, claiming_count, fits_claiming, fits_first, fits_more}
-use Rattle.board_rule.proofs.TryingMarks.{latest, headed, same_wins, noted_wins, names_longer, names_won, names_lost, names_noted, names_counted, marked_won, marked_lost, marked_noted, marked_counted, keeps_item, no_items, claiming_mark, claiming_place, holds_opened, holds_lost, holds_more, holds_counted, holds_journal, holds_left, holds_less, holds_commit}
+use Rattle.board_rule.proofs.TryingMarks.{latest, headed, same_wins, noted_wins, names_longer, names_won, names_lost, names_noted, names_counted, marked_won, marked_lost, marked_noted, marked_counted, no_items, claiming_mark, claiming_place, holds_opened, holds_lost, holds_more, holds_counted, holds_journal, holds_left, holds_less, holds_commit}
 use Rattle.board_rule.proofs.TryingBlames.{not_spent, won_later, won_counted, won_noted, won_holder, other_owner, won_step, blames_as, blames_won, blames_lost, blames_noted, blames_counted}
+use Rattle.board_rule.proofs.Owning.{keeps_star}
 
 -- what the rule says of tries: parts 5 to 9
 pub record Tried (about : About) (journal : List JournalEntry) (views : List View) (c : Chief) : Type 0 where
@@ -126,7 +127,7 @@ module _ (about : About) (words : List ℕ) (journal : List JournalEntry) (now :
       let cl = held.claims claiming in
       let t = headed v.tries cl.won in
       let won = claiming_mark v t.0 t.1 cl t.2 in
-      let other : t.0.place ≢ p = λ e. off (sym free ∙ (keeps_item v p pos ∙ (ap (λ (q : ℕ). has_item v.items q) (sym e) ∙ claiming_place v t.0 t.1 cl t.2 h.marks))) in
+      let other : t.0.place ≢ p = λ e. off (sym free ∙ (keeps_star v p pos ∙ (ap (λ (q : ℕ). has_item v.items q) (sym e) ∙ claiming_place v t.0 t.1 cl t.2 h.marks))) in
       let marks = subst (AllByRecursion Marked) t.2 h.marks in
       let counts = claiming_count about journal id v t.0 t.1 h.entries cl t.2 in
       let few = h.few in

@@ -1,5 +1,5 @@
 -- Part 1 of the rule, after each change: the journal is one legal history.
-use Rattle.std.proofs.Common.{◌≡◌, ℕ, ◌+◌, ◌-◌, ◌<◌, ◌≤◌, ◌^◌, Bool, true, false, cond, nat_eq, ◌||◌, ◌&&◌, List, [], ◌∷◌, ◌++◌, map, length, get_or, replicate, Some, inl, inr, sym, refl, ap, ◌∙◌, subst, arith, eq-eqb}
+use Rattle.std.proofs.Common.{◌≡◌, ℕ, ◌-◌, ◌<◌, ◌≤◌, ◌^◌, Bool, true, false, cond, nat_eq, ◌||◌, ◌&&◌, List, [], ◌∷◌, ◌++◌, map, length, get_or, replicate, Some, inl, inr, sym, refl, ap, ◌∙◌, subst, arith, eq-eqb}
 use Rattle.std.specs.List.{AllByRecursion, flat_map}
 use Rattle.std.specs.Ordering.{nat_cmp}
 use Rattle.std.proofs.Math.ListN.{get_or-eq_default}
@@ -10,7 +10,7 @@ use Rattle.complex_core.specs.Labels.{has, holds}
 use Rattle.complex_core.specs.Maps.{used}
 use Rattle.complex_core.specs.Spaces.{Space, IsComplex, is_held}
 use Rattle.complex_core.proofs.Faces.{equal_cmp}
-use Rattle.complex_core.proofs.Laws.{nat_eq_is, nat_eq_same, or_left, or_right}
+use Rattle.complex_core.proofs.Laws.{nat_eq_is}
 use Rattle.complex_core.proofs.Runs.{held_alike}
 use Rattle.complex_core.proofs.Sets.{any-rising}
 use Rattle.complex_core.proofs.Sorting.{each_append}
@@ -30,6 +30,9 @@ use Rattle.board_rule.specs.Ends.{Opens}
 use Rattle.board_rule.specs.declared.about.About.{About}
 use Rattle.board_rule.specs.declared.data.Slot.{Slot}
 use Rattle.board_rule.proofs.Items.{off}
+use Rattle.complex_core.proofs.Members.{each_member}
+use Rattle.stars.proofs.Mapping.{has_append}
+use Rattle.flip_world.proofs.Rows.{numbers_push}
 
 -- ---- the core of a board
 
@@ -82,24 +85,12 @@ written_first about words slots seats o = record {
 
 -- ---- which labels are used
 
-each_has : (P : ℕ → Type 0) (xs : List ℕ) → ((x : ℕ) → has xs x ≡ true → P x) → AllByRecursion P xs
-each_has P [] h = tt
-each_has P (x ∷ xs) h = (h x (or_left (nat_eq x x) (has xs x) (nat_eq_same x)), each_has P xs (λ y t. h y (or_right (nat_eq x y) (has xs y) t)))
-
 has_each : (P : ℕ → Type 0) (xs : List ℕ) (x : ℕ) → AllByRecursion P xs → has xs x ≡ true → P x
 has_each P [] x a t = off t
 has_each P (y ∷ ys) x a t = elim (nat_eq y x) as (λ b. nat_eq y x ≡ b → (b || has ys x) ≡ true → P x) [
   | true ↦ λ e _. subst P (nat_eq_is y x e) a.0
   | false ↦ λ _ u. has_each P ys x a.1 u
 ] refl t
-
-has-append : (xs ys : List ℕ) (x : ℕ) → has (xs ++ ys) x ≡ (has xs x || has ys x)
-has-append [] ys x = refl
-has-append (y ∷ xs) ys x = ap (λ b. nat_eq y x || b) (has-append xs ys x) ∙ regroup (nat_eq y x) (has xs x) (has ys x)
-  where
-    regroup : (a b c : Bool) → (a || (b || c)) ≡ ((a || b) || c)
-    regroup true b c = refl
-    regroup false b c = refl
 
 -- a label is used where some facet holds it
 has_used : (fs : List (List ℕ)) (x : ℕ) → has (used fs) x ≡ is_held fs (x ∷ [])
@@ -111,11 +102,11 @@ has_used fs x = any-rising nat_cmp equal_cmp (λ y. nat_eq y x) _ ∙ flat fs
 
     flat : (gs : List (List ℕ)) → has (flat_map (λ f. f) gs) x ≡ is_held gs (x ∷ [])
     flat [] = refl
-    flat (g ∷ gs) = has-append g (flat_map (λ f. f) gs) x ∙ (ap (λ b. b || has (flat_map (λ f. f) gs) x) (and_true (has g x)) ∙ ap (λ b. holds g (x ∷ []) || b) (flat gs))
+    flat (g ∷ gs) = has_append g (flat_map (λ f. f) gs) x ∙ (ap (λ b. b || has (flat_map (λ f. f) gs) x) (and_true (has g x)) ∙ ap (λ b. holds g (x ∷ []) || b) (flat gs))
 
 -- flips whose labels are at most n lead to a complex that uses no others
 pub uses_after : (k m : Space) (flips : List Flip) (n : ℕ) → IsComplex k → replay k flips ≡ Some m → ((p : ℕ) → flips_touch p flips ≡ true → p ≤ n) → UsesUpTo k n → UsesUpTo m n
-uses_after k m flips n c e touched w = each_has (λ x. x ≤ n) (used m.facets) (λ x t. by x t (flips_touch x flips) refl)
+uses_after k m flips n c e touched w = each_member (λ x. x ≤ n) (used m.facets) (λ x t. by x t (flips_touch x flips) refl)
   where
     by : (x : ℕ) → has (used m.facets) x ≡ true → (b : Bool) → flips_touch x flips ≡ b → x ≤ n
     by x t true is = touched x is
@@ -123,19 +114,6 @@ uses_after k m flips n c e touched w = each_has (λ x. x ≤ n) (used m.facets) 
         (has_used k.facets x ∙ (held_alike k.facets m.facets (x ∷ []) (sym (others_replay k m flips x c.rising e is)) ∙ (sym (has_used m.facets x) ∙ t)))
 
 -- ---- a commit
-
-numbers_push : (n : ℕ) (es : List JournalEntry) (e : JournalEntry) → e.seq ≡ n + length es → map (λ (d : JournalEntry). d.seq) es ≡ numbers_from n es → map (λ (d : JournalEntry). d.seq) (es ++ e ∷ []) ≡ numbers_from n (es ++ e ∷ [])
-numbers_push n [] e seq h = let g : e.seq ≡ n = omega (arith, seq) in λ i. g i ∷ []
-numbers_push n (d ∷ ds) e seq h = head_tail d.seq n _ _ (heads d.seq n _ _ h) (numbers_push (n + 1) ds e (omega (arith, seq)) (tails d.seq n _ _ h))
-  where
-    heads : (x y : ℕ) (xs ys : List ℕ) → x ∷ xs ≡ y ∷ ys → x ≡ y
-    heads x y xs ys e = cc
-
-    tails : (x y : ℕ) (xs ys : List ℕ) → x ∷ xs ≡ y ∷ ys → xs ≡ ys
-    tails x y xs ys e = cc
-
-    head_tail : (x y : ℕ) (xs ys : List ℕ) → x ≡ y → xs ≡ ys → x ∷ xs ≡ y ∷ ys
-    head_tail x y xs ys e f = cc
 
 -- the worker's entries with one more
 pub numbered_push : (journal : List JournalEntry) (e : JournalEntry) → e.seq ≡ length (of_worker journal e.worker) → Numbered journal → Numbered (journal ++ e ∷ [])

@@ -1,5 +1,5 @@
 -- The tries of a pass, the latest first: each has a mark, and a note of what was won in it.
-use Rattle.std.specs.Prelude.{ℕ, ◌+◌, Bool, true, false, cond, ◌==◌, ◌&&◌, min, List, [], ◌∷◌}
+use Rattle.std.specs.Prelude.{◌≡◌, ℕ, ◌+◌, Bool, true, false, cond, ◌==◌, ◌&&◌, min, List, [], ◌∷◌}
 use mathlib.Core.Option.{Option, some, none}
 use Rattle.std.specs.List.{list_any}
 use Rattle.board_rule.specs.Items.{has_item}
@@ -32,6 +32,10 @@ one_more n = min (n + 1) 4294967295
 -- a refused claim is counted
 abbrev pub refused_at : ℕ → ℕ → Try → Try
 refused_at p o t = record t { vertices = cond (p == 0) t.vertices (one_more t.vertices); journal = cond (p == 0) (one_more t.journal) t.journal; last = p; owner = o }
+
+-- these counts say that no later claim was refused, at a place from 1 or at place 0
+abbrev pub Unrefused : ℕ → ℕ → Type 0
+Unrefused vertices journal = (vertices ≡ 0) × (journal ≡ 0)
 
 -- a won place is noted
 abbrev pub noted_at : ℕ → Home → Try → Try

@@ -48,10 +48,6 @@ shows_breaks k flips number reason c b = never_both k c.end flips number reason 
 shows_elsewhere : (k : Space) (flips : List Flip) → SphereCert k flips → EndsElsewhere IsBoundary k flips → ⊥
 shows_elsewhere k flips c b = let e : Some c.end ≡ Some b.end = sym c.replays ∙ b.replays in let s : c.end ≡ b.end = cc in b.other (subst IsBoundary s c.boundary)
 
-pub all_append : {X : Type 0} (P : X → Type 0) (xs ys : List X) → AllByRecursion P xs → AllByRecursion P ys → AllByRecursion P (xs ++ ys)
-all_append P [] ys a b = b
-all_append P (x ∷ xs) ys a b = (a.0, all_append P xs ys a.1 b)
-
 all_there : {X : Type 0} (P : X → Type 0) (xs ys : List X) (x : X) → AllByRecursion P (xs ++ x ∷ ys) → P x
 all_there P [] ys x a = a.0
 all_there P (z ∷ zs) ys x a = all_there P zs ys x a.1

@@ -3,25 +3,10 @@ use Rattle.std.proofs.Common.{◌≡◌, ℕ, ◌&&◌, nat_eq, List, sym, ◌�
 use Rattle.std.specs.Ordering.{nat_cmp, ordering_then, is_eq}
 use Rattle.std.specs.declared.cmp.Ordering.{Ordering}
 use Rattle.std.specs.declared.cmp.Ordering.TheVariants.{Less, Equal, Greater}
-use Rattle.std.specs.Cmp.{IsTotalOrder, then_total, on_total}
-use Rattle.std.specs.Cmp.Lexicographic.{pointwise, nat_list_cmp_total, texts_ties}
-use Rattle.std.proofs.lemmas.Cmp.{nat_cmp_total}
+use Rattle.std.specs.Cmp.Lexicographic.{pointwise, texts_ties}
 use Rattle.std.proofs.lemmas.Bool.Decides.{nat_tests}
 use Rattle.complex_core.specs.Labels.{face_cmp}
-use Rattle.complex_core.proofs.Faces.{equal_cmp}
-use Rattle.complex_core.proofs.Sorting.{exact_faces}
-use Rattle.cert_replay.specs.Rows.{Row, row_cmp}
-
-pub row_total : IsTotalOrder row_cmp
-row_total = then_total (on_total (λ (t : Row). t.0) nat_cmp_total) (on_total (λ (t : Row). t.1) nat_list_cmp_total)
-
-pub row_exact : (p q : Row) → row_cmp p q ≡ Equal → p ≡ q
-row_exact p q e =
-    elim (nat_cmp p.0 q.0) as (λ r. nat_cmp p.0 q.0 ≡ r → ordering_then r (face_cmp p.1 q.1) ≡ Equal → p ≡ q) [
-      | Less ↦ λ _ g. let t : Less ≡ Equal = g in cc
-      | Equal ↦ λ f g. let a : p.0 ≡ q.0 = equal_cmp p.0 q.0 f in let b : p.1 ≡ q.1 = exact_faces p.1 q.1 g in λ i. (a i, b i)
-      | Greater ↦ λ _ g. let t : Greater ≡ Equal = g in cc
-    ] refl e
+use Rattle.cert_replay.specs.Rows.{row_cmp}
 
 tied_is : (x y : ℕ) → is_eq (nat_cmp x y) ≡ nat_eq x y
 tied_is x y = grind (arith, nat_tests)

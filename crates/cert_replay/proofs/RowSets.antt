@@ -29,6 +29,8 @@ use Rattle.flip_rules.proofs.Replays.{complex_flipped}
 use Rattle.cert_replay.specs.Rows.{Row, row_cmp, AreRowsOf, facets_in, facets_at, Puts, Takes}
 use Rattle.std.specs.declared.ops.Bound.TheVariants.{Included, Excluded}
 use Rattle.cert_replay.proofs.RowOrder.{same_row}
+use Rattle.complex_core.proofs.Booleans.{and_false}
+use Rattle.complex_core.proofs.SetLists.{over_twice, some_before_rising}
 
 -- ---- the rows of a label
 
@@ -242,19 +244,6 @@ pub if_ok_rises : {T E : Type 0} (items : T → List (List ℕ)) (p : List (List
 if_ok_rises items p (Ok v) s h = let P : List (List ℕ) → Type 0 = λ fs. IsStrictlySortedBy face_cmp fs in subst P (sym h) s
 if_ok_rises items p (Err x) s h = h
 
--- the facets that are left when those over a set are taken
-over_twice : (fs : List (List ℕ)) (a : List ℕ) → over (over fs a) a ≡ over fs a
-over_twice [] a = refl
-over_twice (f ∷ fs) a = by_case (holds f a) refl (over_twice fs a)
-  where
-    by_case : (b : Bool) → holds f a ≡ b → over (over fs a) a ≡ over fs a → over (cond b (f ∷ over fs a) (over fs a)) a ≡ cond b (f ∷ over fs a) (over fs a)
-    by_case true e h = ap (λ b. cond b (f ∷ over (over fs a) a) (over (over fs a) a)) e ∙ ap (λ gs. f ∷ gs) h
-    by_case false e h = h
-
-and_false : (a : Bool) → (a && false) ≡ false
-and_false true = refl
-and_false false = refl
-
 -- the facets over A and over B tell the first rule that a flip breaks
 pub why_told : (k : Space) (d : ℕ) (near_a near_b : List (List ℕ)) (a b : List ℕ) → d ≡ k.dim → (0 < length a → near_a ≡ over k.facets a) → (0 < length b → near_b ≡ over k.facets b) → why_near d near_a near_b a b ≡ why k a b
 why_told k d near_a near_b [] b e p q = refl
@@ -275,10 +264,6 @@ why_told k d near_a near_b (x ∷ xs) (y ∷ ys) e p q =
 -- each set of a list is a set of its rising list
 pub each_before_rising : (P : List ℕ → Type 0) (fs : List (List ℕ)) → AllByRecursion P (rising face_cmp fs) → AllByRecursion P fs
 each_before_rising P fs a = all_listed P fs (λ f t. one_listed P (rising face_cmp fs) f a (listed-rising fs f ∙ t))
-
-some_before_rising : (fs : List (List ℕ)) → 0 < length (rising face_cmp fs) → 0 < length fs
-some_before_rising [] h = h
-some_before_rising (f ∷ fs) h = omega arith
 
 first_facet : (d : ℕ) (fs : List (List ℕ)) → 0 < length fs → AllByRecursion (IsFacet d) fs → first_size fs ≡ d + 1
 first_facet d [] h a = absurd (omega (arith, h))

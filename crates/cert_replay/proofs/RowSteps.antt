@@ -1,26 +1,17 @@
 -- Rows put in and taken out, one after another.
-use Rattle.std.proofs.Common.{◌≡◌, ℕ, ◌+◌, ◌<◌, ◌≤◌, zero, suc, take, get_or, Bool, true, false, not, cond, ◌||◌, ◌&&◌, nat_eq, List, [], ◌∷◌, ◌++◌, length, sym, ◌∙◌, ap, refl, subst, arith}
+use Rattle.std.proofs.Common.{◌≡◌, ℕ, ◌+◌, ◌<◌, ◌≤◌, zero, suc, take, get_or, Bool, true, false, not, cond, ◌||◌, ◌&&◌, nat_eq, List, [], ◌∷◌, length, sym, ◌∙◌, ap, refl, subst, arith}
 use Rattle.std.specs.BTreeSet.{BTreeSet, contains}
 use Rattle.std.specs.Ordering.{is_eq}
 use Rattle.std.specs.Cmp.Lexicographic.{pointwise}
 use Rattle.complex_core.specs.Labels.{has}
-use Rattle.complex_core.specs.Spaces.{is_facet}
-use Rattle.complex_core.proofs.Laws.{same_sets_is, listed-append}
+use Rattle.complex_core.proofs.Laws.{same_sets_is}
 use Rattle.std.proofs.lemmas.List.Folds.{list_any-append}
 use Rattle.cert_replay.specs.Rows.{Row, row_cmp, Puts, Takes}
 use Rattle.cert_replay.proofs.RowOrder.{same_row}
+use Rattle.std.proofs.lemmas.List.{get_or_default}
+use Rattle.complex_core.proofs.Members.{taken_more}
 
 -- ---- a place in a list
-
-pub taken_more : {X : Type 0} (xs : List X) (i : ℕ) (x : X) → i < length xs → x ≡ get_or xs i x → take (i + 1) xs ≡ take i xs ++ x ∷ []
-taken_more [] i x h e = absurd (omega (arith, h))
-taken_more (y ∷ ys) zero x h e = ap (λ z. z ∷ []) (sym e)
-taken_more (y ∷ ys) (suc i) x h e = let n : suc i + 1 ≡ suc (i + 1) = omega arith in rw n (ap (λ zs. y ∷ zs) (taken_more ys i x (omega arith) e))
-
-pub same_at : {X : Type 0} (xs : List X) (i : ℕ) (d e : X) → i < length xs → get_or xs i d ≡ get_or xs i e
-same_at [] i d e h = absurd (omega (arith, h))
-same_at (y ∷ ys) zero d e h = refl
-same_at (y ∷ ys) (suc i) d e h = same_at ys i d e (omega arith)
 
 pub taken_all : {X : Type 0} (xs : List X) (i : ℕ) → length xs ≤ i → take i xs ≡ xs
 taken_all [] zero h = refl
@@ -42,17 +33,6 @@ or_none : (a b : Bool) → a ≡ (a || (b && false))
 or_none true b = refl
 or_none false true = refl
 or_none false false = refl
-
-and_none : (a b : Bool) → a ≡ (a && not (b && false))
-and_none true true = refl
-and_none true false = refl
-and_none false b = refl
-
-pub puts_none : (g : List ℕ) (rows : BTreeSet Row) → PutsPart g [] rows rows
-puts_none g rows = record { each = λ x f. or_none (contains row_cmp rows (x, f)) (pointwise nat_eq g f) }
-
-pub takes_none : (g : List ℕ) (rows : BTreeSet Row) → TakesPart g [] rows rows
-takes_none g rows = record { each = λ x f. and_none (contains row_cmp rows (x, f)) (pointwise nat_eq g f) }
 
 has_next : (labels : List ℕ) (i y x : ℕ) → i < length labels → y ≡ get_or labels i y → has (take (i + 1) labels) x ≡ (has (take i labels) x || nat_eq y x)
 has_next labels i y x h e = ap (λ ls. has ls x) (taken_more labels i y h e) ∙ list_any-append (λ z. nat_eq z x) (take i labels) (y ∷ []) ∙ ap (λ b. has (take i labels) x || b) (or_false (nat_eq y x))
@@ -88,7 +68,7 @@ puts_label g labels i z start old new p h part step =
           step (x, f)
           ∙ (λ j. cond ((ap (λ w. is_eq (row_cmp (w, g) (x, f))) p ∙ same_row y x g f) j) true (part.each x f j))
           ∙ put_table (nat_eq y x) (pointwise nat_eq g f) (contains row_cmp start (x, f)) (has (take i labels) x)
-          ∙ ap (λ b. contains row_cmp start (x, f) || (pointwise nat_eq g f && b)) (sym (has_next labels i y x h (same_at labels i 0 y h)));
+          ∙ ap (λ b. contains row_cmp start (x, f) || (pointwise nat_eq g f && b)) (sym (has_next labels i y x h (get_or_default labels i 0 y h)));
     }
 
 pub takes_label : (g labels : List ℕ) (i z : ℕ) (start old new : BTreeSet Row) → z ≡ get_or labels i 0 → i < length labels → TakesPart g (take i labels) start old → ((q : Row) → contains row_cmp new q ≡ cond (is_eq (row_cmp (z, g) q)) false (contains row_cmp old q)) → TakesPart g (take (i + 1) labels) start new
@@ -98,7 +78,7 @@ takes_label g labels i z start old new p h part step =
           step (x, f)
           ∙ (λ j. cond ((ap (λ w. is_eq (row_cmp (w, g) (x, f))) p ∙ same_row y x g f) j) false (part.each x f j))
           ∙ take_table (nat_eq y x) (pointwise nat_eq g f) (contains row_cmp start (x, f)) (has (take i labels) x)
-          ∙ ap (λ b. contains row_cmp start (x, f) && not (pointwise nat_eq g f && b)) (sym (has_next labels i y x h (same_at labels i 0 y h)));
+          ∙ ap (λ b. contains row_cmp start (x, f) && not (pointwise nat_eq g f && b)) (sym (has_next labels i y x h (get_or_default labels i 0 y h)));
     }
 
 -- a set that is the facet has its labels
@@ -124,64 +104,6 @@ takes_facet g labels i old new p h part = record {
 }
 
 -- ---- the rows of facets, one facet after another
-
-puts_table : (o s t h : Bool) → ((o || (s && h)) || (t && h)) ≡ (o || ((s || t) && h))
-puts_table true s t h = refl
-puts_table false true t true = refl
-puts_table false true true false = refl
-puts_table false true false false = refl
-puts_table false false t h = refl
-
-takes_table : (o s t h : Bool) → ((o && not (s && h)) && not (t && h)) ≡ (o && not ((s || t) && h))
-takes_table false s t h = refl
-takes_table true true true true = refl
-takes_table true true true false = refl
-takes_table true true false true = refl
-takes_table true true false false = refl
-takes_table true false t h = refl
-
-pub puts_nothing : (rows : BTreeSet Row) → Puts [] rows rows
-puts_nothing rows = record { each = λ x f. or_false (contains row_cmp rows (x, f)) }
-  where
-    or_false : (b : Bool) → b ≡ (b || false)
-    or_false true = refl
-    or_false false = refl
-
-pub takes_nothing : (rows : BTreeSet Row) → Takes [] rows rows
-takes_nothing rows = record { each = λ x f. and_true (contains row_cmp rows (x, f)) }
-  where
-    and_true : (b : Bool) → b ≡ (b && true)
-    and_true true = refl
-    and_true false = refl
-
-pub puts_then : (more last : List (List ℕ)) (start old new : BTreeSet Row) → Puts more start old → Puts last old new → Puts (more ++ last) start new
-puts_then more last start old new p q = record {
-  each = λ x f.
-      q.each x f ∙ ap (λ b. b || (is_facet last f && has f x)) (p.each x f)
-      ∙ puts_table (contains row_cmp start (x, f)) (is_facet more f) (is_facet last f) (has f x)
-      ∙ ap (λ b. contains row_cmp start (x, f) || (b && has f x)) (sym (listed-append more last f));
-}
-
-pub takes_then : (out last : List (List ℕ)) (start old new : BTreeSet Row) → Takes out start old → Takes last old new → Takes (out ++ last) start new
-takes_then out last start old new p q = record {
-  each = λ x f.
-      q.each x f ∙ ap (λ b. b && not (is_facet last f && has f x)) (p.each x f)
-      ∙ takes_table (contains row_cmp start (x, f)) (is_facet out f) (is_facet last f) (has f x)
-      ∙ ap (λ b. contains row_cmp start (x, f) && not (b && has f x)) (sym (listed-append out last f));
-}
-
-pub puts_next : (all : List (List ℕ)) (i : ℕ) (g : List ℕ) (start old new : BTreeSet Row) → i < length all → g ≡ get_or all i g → Puts (take i all) start old → Puts (g ∷ []) old new → Puts (take (i + 1) all) start new
-puts_next all i g start old new h e p q =
-    let P : List (List ℕ) → Type 0 = λ fs. Puts fs start new in
-    subst P (sym (taken_more all i g h e)) (puts_then (take i all) (g ∷ []) start old new p q)
-
-pub takes_next : (all : List (List ℕ)) (i : ℕ) (g : List ℕ) (start old new : BTreeSet Row) → i < length all → g ≡ get_or all i g → Takes (take i all) start old → Takes (g ∷ []) old new → Takes (take (i + 1) all) start new
-takes_next all i g start old new h e p q =
-    let P : List (List ℕ) → Type 0 = λ fs. Takes fs start new in
-    subst P (sym (taken_more all i g h e)) (takes_then (take i all) (g ∷ []) start old new p q)
-
-pub puts_all : (all : List (List ℕ)) (i : ℕ) (start new : BTreeSet Row) → length all ≤ i → Puts (take i all) start new → Puts all start new
-puts_all all i start new h p = let P : List (List ℕ) → Type 0 = λ fs. Puts fs start new in subst P (taken_all all i h) p
 
 pub takes_all : (all : List (List ℕ)) (i : ℕ) (start new : BTreeSet Row) → length all ≤ i → Takes (take i all) start new → Takes all start new
 takes_all all i start new h p = let P : List (List ℕ) → Type 0 = λ fs. Takes fs start new in subst P (taken_all all i h) p

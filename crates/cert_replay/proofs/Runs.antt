@@ -1,12 +1,12 @@
 -- Flips one after another.
-use Rattle.std.proofs.Common.{◌≡◌, ℕ, ◌+◌, ◌<◌, ◌≤◌, zero, suc, take, drop, get_or, List, [], ◌∷◌, ◌++◌, length, Some, Ok, Err, sym, ◌∙◌, ap, refl, arith}
+use Rattle.std.proofs.Common.{◌≡◌, ℕ, ◌+◌, ◌<◌, zero, suc, take, drop, get_or, List, [], ◌∷◌, ◌++◌, length, Some, Ok, Err, sym, ◌∙◌, ap, refl, arith}
 use Rattle.complex_core.specs.Spaces.{Space}
 use Rattle.flip_rules.specs.Flips.{why, flipped, replay}
 use Rattle.flip_rules.specs.Certificates.{IsFirstIllegal}
 use Rattle.flip_rules.specs.declared.flip.Flip.{Flip}
 use Rattle.flip_rules.specs.declared.flip.Illegal.{Illegal}
 use Rattle.flip_rules.proofs.Replays.{replay_then}
-use Rattle.cert_replay.proofs.RowSteps.{taken_more, taken_all}
+use Rattle.complex_core.proofs.Members.{taken_more}
 
 pub split_there : {X : Type 0} (xs : List X) (i : ℕ) (x : X) → i < length xs → x ≡ get_or xs i x → xs ≡ take i xs ++ x ∷ drop (i + 1) xs
 split_there [] i x h e = absurd (omega (arith, h))
@@ -34,6 +34,3 @@ first_illegal k mid flips place f reason e n t w = record {
   replays = e;
   breaks = w;
 }
-
-pub replay_whole : (k end : Space) (flips : List Flip) (place : ℕ) → replay k (take place flips) ≡ Some end → length flips ≤ place → replay k flips ≡ Some end
-replay_whole k end flips place e n = ap (replay k) (sym (taken_all flips place n)) ∙ e

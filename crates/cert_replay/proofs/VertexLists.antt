@@ -21,9 +21,10 @@ use Rattle.cert_text.specs.Claims.{OfVertex, of_vertex}
 use Rattle.cert_replay.specs.Answers.{link_at, ShowsLink, NamesVertices, IsListAnswer, all_flips, LinksShown, LinkBreaks, LinkEndsElsewhere}
 use Rattle.cert_replay.specs.declared.judge.Replayed.{Replayed}
 use Rattle.cert_replay.specs.declared.judge.Replayed.TheVariants.{Valid, Bad, WrongEnd}
-use Rattle.cert_replay.proofs.RowSteps.{taken_more, taken_all}
+use Rattle.cert_replay.proofs.RowSteps.{taken_all}
 use Rattle.cert_replay.proofs.Runs.{split_there}
-use Rattle.cert_replay.proofs.OneAnswer.{all_append}
+use Rattle.complex_core.proofs.Sorting.{each_append}
+use Rattle.complex_core.proofs.Members.{taken_more}
 
 -- ---- two complexes are one
 
@@ -135,7 +136,7 @@ shown_more k lists i x r so_far more facets new s j e n =
     let P : List OfVertex → Type 0 = λ vs. AllByRecursion (ShowsLink k) vs in
     let c : new ≡ all_flips (map of_vertex (take i lists)) + length x.1.items = n ∙ (λ t. s.counted t + a.counted t) in
     record {
-      shown = subst P (sym l) (all_append (ShowsLink k) (map of_vertex (take i lists)) (of_vertex x ∷ []) s.shown (record { end = a.end; replays = a.replays; boundary = a.claimed }, tt));
+      shown = subst P (sym l) (each_append (ShowsLink k) (map of_vertex (take i lists)) (of_vertex x ∷ []) s.shown (record { end = a.end; replays = a.replays; boundary = a.claimed }, tt));
       counted = c ∙ sym (all_flips-push (map of_vertex (take i lists)) (of_vertex x)) ∙ ap all_flips (sym l);
     }
 

@@ -1,5 +1,5 @@
 -- One more pair of a map.
-use Rattle.std.proofs.Common.{◌≡◌, ◌<◌, ◌∙◌, ◌++◌, ◌∷◌, [], ℕ, zero, suc, Bool, true, false, ◌||◌, cond, List, refl, sym, arith, length, take, get_or, nat_eq}
+use Rattle.std.proofs.Common.{◌≡◌, ◌<◌, ◌∙◌, ◌++◌, ◌∷◌, [], ℕ, zero, suc, Bool, true, false, cond, List, refl, sym, arith, length, take, get_or, nat_eq}
 use Rattle.std.specs.List.{list_any}
 use Rattle.std.proofs.lemmas.Bool.{true≢false}
 use Rattle.std.specs.Cmp.{unsigned_tied}
@@ -8,12 +8,8 @@ use Rattle.complex_core.specs.Maps.{ArePositive, Differ, reaches, takes}
 use Rattle.complex_core.specs.MapFaults.{IsFirstTwice}
 use Rattle.complex_core.proofs.Laws.{both_false, nat_eq_swap}
 use Rattle.cert_text.specs.Lines.{IsSeen}
-
-seen_last : (a b : Bool) → cond a true b ≡ (b || (a || false))
-seen_last true true = refl
-seen_last true false = refl
-seen_last false true = refl
-seen_last false false = refl
+use Rattle.complex_core.proofs.Pairs.{at_the_end}
+use Rattle.complex_core.proofs.Booleans.{left_off, right_off}
 
 -- the numbers seen, with the next pair's
 pub seen_more : (side : ℕ × ℕ → ℕ) (ps : List (ℕ × ℕ)) (p : ℕ × ℕ) (old new : ℕ → Bool) → ((x : ℕ) → old x ≡ list_any (λ q. nat_eq (side q) x) ps) → IsSeen old (side p) new
@@ -21,7 +17,7 @@ pub seen_more : (side : ℕ × ℕ → ℕ) (ps : List (ℕ × ℕ)) (p : ℕ ×
 seen_more side ps p old new so_far step x =
     step x
     ∙ (λ j. cond (unsigned_tied (side p) x j) true (so_far x j))
-    ∙ seen_last (nat_eq (side p) x) (list_any (λ q. nat_eq (side q) x) ps)
+    ∙ at_the_end (nat_eq (side p) x) (list_any (λ q. nat_eq (side q) x) ps)
     ∙ sym (list_any-append (λ q. nat_eq (side q) x) ps (p ∷ []))
 
 pub positive_push : (ps : List (ℕ × ℕ)) (p : ℕ × ℕ) → ArePositive ps → (0 < p.0) × (0 < p.1) → ArePositive (ps ++ p ∷ [])
@@ -30,18 +26,10 @@ positive_push (q ∷ qs) p all is = (all.0, positive_push qs p all.1 is)
 
 -- ---- no pair repeats a number of an earlier one
 
-first_of_any : (a b : Bool) → (a || b) ≡ false → a ≡ false
-first_of_any true b e = absurd (true≢false e)
-first_of_any false b e = refl
-
-rest_of_any : (a b : Bool) → (a || b) ≡ false → b ≡ false
-rest_of_any true b e = absurd (true≢false e)
-rest_of_any false b e = e
-
 other : (side : ℕ × ℕ → ℕ) (ps : List (ℕ × ℕ)) (i x : ℕ) (d : ℕ × ℕ) → list_any (λ q. nat_eq (side q) x) ps ≡ false → i < length ps → nat_eq (side (get_or ps i d)) x ≡ false
 other side [] i x d none lt = absurd (omega arith)
-other side (p ∷ ps) zero x d none lt = first_of_any (nat_eq (side p) x) (list_any (λ q. nat_eq (side q) x) ps) none
-other side (p ∷ ps) (suc i) x d none lt = other side ps i x d (rest_of_any (nat_eq (side p) x) (list_any (λ q. nat_eq (side q) x) ps) none) (omega arith)
+other side (p ∷ ps) zero x d none lt = left_off (nat_eq (side p) x) (list_any (λ q. nat_eq (side q) x) ps) none
+other side (p ∷ ps) (suc i) x d none lt = other side ps i x d (right_off (nat_eq (side p) x) (list_any (λ q. nat_eq (side q) x) ps) none) (omega arith)
 
 pub none_before : (ps : List (ℕ × ℕ)) (i : ℕ) (d : ℕ × ℕ) → Differ ps → i < length ps → (takes (take i ps) (get_or ps i d).0 ≡ false) × (reaches (take i ps) (get_or ps i d).1 ≡ false)
 none_before [] i d differ lt = absurd (omega arith)

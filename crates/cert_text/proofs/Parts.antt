@@ -29,14 +29,6 @@ pub first_read : {A B : Type 0} (read : Result A CertFault) (x : A) (f : A → R
 unfolding ◌>>=◌
 first_read read x f h = rw h refl
 
--- a known fault
-pub is_fault : {A : Type 0} (e : CertFault) (read : Result A CertFault) → read ≡ Err e → Fails e read
-is_fault fault.Memory read h = tt
-is_fault (fault.Syntax p) read h = h
-is_fault (fault.Label p) read h = h
-is_fault (fault.Count p) read h = h
-is_fault (fault.Target t) read h = h
-
 -- a line that is read, and the fault of a line
 pub line_read : {A : Type 0} (read : Result A LineFault) (x : A) → read ≡ Ok x → of_line read ≡ Ok x
 unfolding of_line

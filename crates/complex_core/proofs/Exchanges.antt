@@ -15,10 +15,7 @@ use Rattle.complex_core.proofs.Sets.{sorted_put}
 use Rattle.complex_core.proofs.Searching.{Stands, Missing, searched_for, rising_push, rising_own}
 use Rattle.complex_core.proofs.Sorting.{exact_faces}
 use Rattle.complex_core.proofs.Laws.{listed-among}
-
-or_none : (b : Bool) → (b || false) ≡ b
-or_none true = refl
-or_none false = refl
+use Rattle.complex_core.proofs.Booleans.{or_none}
 
 -- one taken out
 staying_one : (xs : List (List ℕ)) (x : List ℕ) → staying xs (x ∷ []) ≡ filter (λ y. not (eq_by_cmp face_cmp y x)) xs

@@ -34,7 +34,7 @@ positive_at (p ∷ ps) x h t =
       | false ↦ λ r. positive_at ps x h.1 r
     ] t
 
-injective : (ps : List (ℕ × ℕ)) (x y : ℕ) → Differ ps → takes ps x ≡ true → takes ps y ≡ true → at ps x ≡ at ps y → x ≡ y
+pub injective : (ps : List (ℕ × ℕ)) (x y : ℕ) → Differ ps → takes ps x ≡ true → takes ps y ≡ true → at ps x ≡ at ps y → x ≡ y
 injective [] x y d t r e = let f : false ≡ true = t in cc
 injective (p ∷ ps) x y d t r e =
     elim (nat_eq p.0 x) as (λ b. nat_eq p.0 x ≡ b → (b || takes ps x) ≡ true → cond b p.1 (at ps x) ≡ at (p ∷ ps) y → x ≡ y) [

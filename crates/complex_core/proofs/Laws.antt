@@ -36,7 +36,7 @@ nat_eq_same x = grind (arith, nat_tests)
 tied_is : (x y : ℕ) → eq_by_cmp nat_cmp x y ≡ nat_eq x y
 tied_is x y = grind (arith, nat_tests)
 
-or_assoc : (a b c : Bool) → (a || (b || c)) ≡ ((a || b) || c)
+pub or_assoc : (a b c : Bool) → (a || (b || c)) ≡ ((a || b) || c)
 or_assoc true b c = refl
 or_assoc false b c = refl
 
@@ -72,7 +72,7 @@ drop_same true false true h = refl
 drop_same true false false h = h refl
 drop_same false b c h = refl
 
-keep_other : (a b c : Bool) → (a ≡ true → c ≡ false) → (a || (b && not c)) ≡ ((a || b) && not c)
+pub keep_other : (a b c : Bool) → (a ≡ true → c ≡ false) → (a || (b && not c)) ≡ ((a || b) && not c)
 keep_other true b true h = h refl
 keep_other true b false h = refl
 keep_other false b c h = refl
@@ -85,7 +85,7 @@ has-without (y ∷ ys) x z =
       | false ↦ λ e. ap (λ b. nat_eq y z || b) (has-without ys x z) ∙ keep_other (nat_eq y z) (has ys z) (nat_eq z x) (λ t. ap (λ w. nat_eq w x) (sym (nat_eq_is y z t)) ∙ e)
     ] refl
 
-either : (a b c : Bool) → (a || b) ≡ true → (a ≡ true → c ≡ true) → (b ≡ true → c ≡ true) → c ≡ true
+pub either : (a b c : Bool) → (a || b) ≡ true → (a ≡ true → c ≡ true) → (b ≡ true → c ≡ true) → c ≡ true
 either true b c h f g = f refl
 either false b c h f g = g h
 

@@ -1,3 +1,4 @@
+pub mod Booleans
 pub mod Sets
 pub mod Faces
 pub mod Sorting
@@ -17,3 +18,5 @@ pub mod Combinations
 pub mod Packs
 pub mod Zeros
 pub mod Edits
+pub mod Members
+pub mod SetLists

@@ -19,6 +19,7 @@ use Rattle.complex_core.proofs.Sets.{any-put, any-rising, each_rising, sorted_ri
 use Rattle.complex_core.proofs.SortAny.{sorted_any}
 use Rattle.complex_core.proofs.Faces.{equal_cmp, less_cmp, cmp_less, cmp_greater}
 use Rattle.complex_core.proofs.Laws.{both_false, nat_eq_is, nat_eq_swap, or_right}
+use Rattle.complex_core.proofs.Booleans.{right_off}
 
 -- ---- the order of pairs
 
@@ -52,10 +53,6 @@ other_first x y b h =
       | false ↦ λ e _. nat_eq_swap y x ∙ e
     ] refl h
 
-rest_first : (a b : Bool) → (a || b) ≡ false → b ≡ false
-rest_first true b h = let f : true ≡ false = h in cc
-rest_first false b h = h
-
 pub takes-rising : (pairs : List (ℕ × ℕ)) (x : ℕ) → takes (rising pair_cmp pairs) x ≡ takes pairs x
 takes-rising pairs x = any-rising pair_cmp pair_exact (λ p. nat_eq p.0 x) pairs
 
@@ -71,7 +68,7 @@ differ_put k (p ∷ ps) t r d =
       | Greater ↦ (
         any-put pair_cmp pair_exact (λ q. nat_eq q.0 p.0) k ps ∙ both_false (other_first p.0 k.0 (takes ps k.0) t) d.0,
         any-put pair_cmp pair_exact (λ q. nat_eq q.1 p.1) k ps ∙ both_false (other_first p.1 k.1 (reaches ps k.1) r) d.1,
-        differ_put k ps (rest_first (nat_eq p.0 k.0) (takes ps k.0) t) (rest_first (nat_eq p.1 k.1) (reaches ps k.1) r) d.2,
+        differ_put k ps (right_off (nat_eq p.0 k.0) (takes ps k.0) t) (right_off (nat_eq p.1 k.1) (reaches ps k.1) r) d.2,
       )
     ]
 
@@ -92,7 +89,7 @@ differ_push [] p d t r = (refl, refl, tt)
 differ_push (q ∷ qs) p d t r = (
   list_any-append (λ s. nat_eq s.0 q.0) qs (p ∷ []) ∙ both_false d.0 (both_false (other_first q.0 p.0 (takes qs p.0) t) refl),
   list_any-append (λ s. nat_eq s.1 q.1) qs (p ∷ []) ∙ both_false d.1 (both_false (other_first q.1 p.1 (reaches qs p.1) r) refl),
-  differ_push qs p d.2 (rest_first (nat_eq q.0 p.0) (takes qs p.0) t) (rest_first (nat_eq q.1 p.1) (reaches qs p.1) r),
+  differ_push qs p d.2 (right_off (nat_eq q.0 p.0) (takes qs p.0) t) (right_off (nat_eq q.1 p.1) (reaches qs p.1) r),
 )
 
 -- ---- pairs turned round
@@ -136,7 +133,7 @@ missing_pair (p ∷ ps) x d h = both_false (h 0 (omega arith)) (missing_pair ps 
 
 -- ---- the numbers seen so far
 
-at_the_end : (a b : Bool) → cond a true b ≡ (b || (a || false))
+pub at_the_end : (a b : Bool) → cond a true b ≡ (b || (a || false))
 at_the_end true true = refl
 at_the_end true false = refl
 at_the_end false true = refl

@@ -1,8 +1,9 @@
 -- Labels numbered from 1, and the way back.
-use Rattle.std.proofs.Common.{◌≡◌, ℕ, ◌+◌, ◌-◌, ◌<◌, ◌≤◌, zero, suc, get_or, true, false, nat_eq, cond, ◌||◌, List, [], ◌∷◌, ◌++◌, length, take, sym, ◌∙◌, ap, refl, subst, arith}
+use Rattle.std.proofs.Common.{◌≡◌, ℕ, ◌+◌, ◌-◌, ◌<◌, ◌≤◌, zero, suc, get_or, true, false, nat_eq, cond, ◌||◌, List, [], ◌∷◌, ◌++◌, length, take, sym, ◌∙◌, ap, refl, subst, arith, inl, inr}
 use Rattle.std.specs.List.Sorted.{IsStrictlySortedBy}
 use Rattle.std.specs.Ordering.{nat_cmp, ordering_then}
 use Rattle.std.specs.declared.cmp.Ordering.TheVariants.{Less}
+use Rattle.std.proofs.lemmas.Bool.{cases_lt}
 use Rattle.std.proofs.lemmas.Bool.Decides.{nat_tests}
 use Rattle.std.proofs.lemmas.Cmp.{nat_cmp_total}
 use Rattle.std.proofs.lemmas.List.{take_more, length-take}
@@ -12,7 +13,7 @@ use Rattle.complex_core.specs.Maps.{IsMap, Differ, ArePositive, pair_cmp, takes,
 use Rattle.complex_core.proofs.Sets.{Above, above_cons, above_head, above_tail, above_lower, sorted_none, last}
 use Rattle.complex_core.proofs.Searching.{rising_own}
 use Rattle.complex_core.proofs.Faces.{cmp_less, less_cmp}
-use Rattle.complex_core.proofs.Laws.{above_not, both_false, nat_eq_is, nat_eq_same}
+use Rattle.complex_core.proofs.Laws.{above_not, both_false, nat_eq_is, nat_eq_same, or_left, or_right}
 use Rattle.complex_core.proofs.Pairs.{pair_total, pair_exact, takes-turned, reaches-turned}
 use Rattle.complex_core.proofs.Images.{reaches_at}
 
@@ -118,7 +119,7 @@ rising_turned k (x ∷ xs) s = above_cons pair_cmp (x, k) (turned (numbered (k +
 pub turned_own : (xs : List ℕ) → IsRising xs → rising pair_cmp (turned (numbered 1 xs)) ≡ turned (numbered 1 xs)
 turned_own xs s = rising_own pair_total pair_exact (turned (numbered 1 xs)) (rising_turned 1 xs (above_tail nat_cmp 0 xs s))
 
-other_key : (ps : List (ℕ × ℕ)) (x y : ℕ) → takes ps x ≡ false → takes ps y ≡ true → nat_eq x y ≡ false
+pub other_key : (ps : List (ℕ × ℕ)) (x y : ℕ) → takes ps x ≡ false → takes ps y ≡ true → nat_eq x y ≡ false
 other_key ps x y f t = elim (nat_eq x y) as (λ b. nat_eq x y ≡ b → b ≡ false) [
   | true ↦ λ e. sym t ∙ ap (takes ps) (sym (nat_eq_is x y e)) ∙ f
   | false ↦ λ _. refl
@@ -139,3 +140,24 @@ at_back (p ∷ ps) y d r =
 -- the place that a label has is taken
 pub place_taken : (ps : List (ℕ × ℕ)) (y : ℕ) → reaches ps y ≡ true → takes ps (at (turned ps) y) ≡ true
 place_taken ps y r = sym (reaches-turned ps (at (turned ps) y)) ∙ reaches_at (turned ps) y (takes-turned ps y ∙ r)
+
+-- ---- how many places there are, and that each has a name
+
+pub length_numbered : (k : ℕ) (xs : List ℕ) → length (numbered k xs) ≡ length xs
+length_numbered k [] = refl
+length_numbered k (x ∷ xs) = let e : length (numbered (k + 1) xs) ≡ length xs = length_numbered (k + 1) xs in omega (arith, e)
+
+pub length_next : (n room : ℕ) → length (next_after n room) ≡ room
+length_next n zero = refl
+length_next n (suc room) = let e : length (next_after (n + 1) room) ≡ room = length_next (n + 1) room in omega (arith, e)
+
+pub few_used : (xs : List ℕ) → IsRising xs → length xs ≤ greatest xs
+few_used [] s = omega arith
+few_used (x ∷ xs) s = let l : 0 + (length (x ∷ xs) - 1) + 1 ≤ get_or (x ∷ xs) (length (x ∷ xs) - 1) 0 = at_least_place 0 (x ∷ xs) (length (x ∷ xs) - 1) s (omega arith) in omega (arith, l)
+
+pub place_named : (k : ℕ) (xs : List ℕ) (p : ℕ) → k ≤ p → p < k + length xs → takes (numbered k xs) p ≡ true
+place_named k [] p low high = absurd (omega (arith, low, high))
+place_named k (x ∷ xs) p low high = elim (cases_lt k p) [
+  | inl l ↦ or_right (nat_eq k p) (takes (numbered (k + 1) xs) p) (place_named (k + 1) xs p (omega (arith, l)) (omega (arith, high)))
+  | inr l ↦ let same : nat_eq k p ≡ true = grind (arith, nat_tests) in or_left (nat_eq k p) (takes (numbered (k + 1) xs) p) same
+]

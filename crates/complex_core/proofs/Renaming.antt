@@ -23,7 +23,7 @@ use Rattle.complex_core.proofs.Laws.{each_has, or_left, or_right}
 use Rattle.complex_core.proofs.Pairs.{takes-turned, takes-rising}
 use Rattle.complex_core.proofs.Places.{at_back, place_taken, numbered_map, reaches-numbered, rising_spare, turned_own}
 
-list_any-map : {K L : Type 0} (p : L → Bool) (h : K → L) (xs : List K) → list_any p (map h xs) ≡ list_any (λ x. p (h x)) xs
+pub list_any-map : {K L : Type 0} (p : L → Bool) (h : K → L) (xs : List K) → list_any p (map h xs) ≡ list_any (λ x. p (h x)) xs
 list_any-map p h [] = refl
 list_any-map p h (x ∷ xs) = ap (λ b. p (h x) || b) (list_any-map p h xs)
 
@@ -77,7 +77,7 @@ image_taken m fs r = all_from_each (λ f. list_all (takes m) f) (image (turned m
 -- ---- the names of the places
 
 -- a test that all labels pass
-each_label : (p : ℕ → Bool) (fs : List (List ℕ)) → ((x : ℕ) → has (flat_map (λ f. f) fs) x ≡ true → p x ≡ true) → list_all (λ f. list_all p f) fs ≡ true
+pub each_label : (p : ℕ → Bool) (fs : List (List ℕ)) → ((x : ℕ) → has (flat_map (λ f. f) fs) x ≡ true → p x ≡ true) → list_all (λ f. list_all p f) fs ≡ true
 each_label p [] h = refl
 each_label p (f ∷ fs) h =
     let parts : (x : ℕ) → has (f ++ flat_map (λ g. g) fs) x ≡ (has f x || has (flat_map (λ g. g) fs) x) = λ x. list_any-append (λ y. nat_eq y x) f (flat_map (λ g. g) fs) in
@@ -93,7 +93,7 @@ all_named fs room =
     ∙ list_any-append (λ y. nat_eq y x) (used fs) spare
     ∙ or_left (has (used fs) x) (has spare x) (any-rising nat_cmp equal_cmp (λ y. nat_eq y x) (flat_map (λ f. f) fs) ∙ t))
 
-labels_above : (d : ℕ) (fs : List (List ℕ)) → AllByRecursion (IsFacet d) fs → AllByRecursion (λ y. nat_cmp 0 y ≡ Less) (flat_map (λ f. f) fs)
+pub labels_above : (d : ℕ) (fs : List (List ℕ)) → AllByRecursion (IsFacet d) fs → AllByRecursion (λ y. nat_cmp 0 y ≡ Less) (flat_map (λ f. f) fs)
 labels_above d [] h = tt
 labels_above d (f ∷ fs) h = each_append (λ y. nat_cmp 0 y ≡ Less) f (flat_map (λ g. g) fs) (above_head nat_cmp 0 f h.0.face.rising) (labels_above d fs h.1)
 

@@ -58,7 +58,7 @@ can_make size ks some not_none not_all h =
       pure = let P : ℕ → Type 0 = λ n. AllByRecursion (λ f. length f ≡ n) ks in subst P (sym e) (same_sizes size ks h);
     }
 
-each_filter : {K : Type 0} (P : K → Type 0) (p : K → Bool) (xs : List K) → AllByRecursion P xs → AllByRecursion P (filter p xs)
+pub each_filter : {K : Type 0} (P : K → Type 0) (p : K → Bool) (xs : List K) → AllByRecursion P xs → AllByRecursion P (filter p xs)
 each_filter P p [] h = tt
 each_filter P p (x ∷ xs) h = elim (p x) as (λ b. AllByRecursion P (cond b (x ∷ filter p xs) (filter p xs))) [ true ↦ (h.0, each_filter P p xs h.1) | false ↦ each_filter P p xs h.1 ]
 

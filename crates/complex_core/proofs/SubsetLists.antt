@@ -167,7 +167,7 @@ begins x n (y ∷ ys) r =
 same_head : (x : ℕ) (s t : List ℕ) → face_cmp (x ∷ s) (x ∷ t) ≡ face_cmp s t
 same_head x s t = ap (λ r. ordering_then r (face_cmp s t)) (cmp_equal x x refl)
 
-above_map : (x : ℕ) (s : List ℕ) (ss : List (List ℕ)) → Above face_cmp s ss → Above face_cmp (x ∷ s) (map (λ t. x ∷ t) ss)
+pub above_map : (x : ℕ) (s : List ℕ) (ss : List (List ℕ)) → Above face_cmp s ss → Above face_cmp (x ∷ s) (map (λ t. x ∷ t) ss)
 above_map x s [] a = tt
 above_map x s (t ∷ ts) a = (same_head x s t ∙ a.0, above_map x s ts a.1)
 
@@ -176,7 +176,7 @@ above_begun x s [] a = tt
 above_begun x s ([] ∷ ts) a = elim a.0 [ ]
 above_begun x s ((y ∷ t) ∷ ts) a = (ap (λ r. ordering_then r (face_cmp s t)) a.0, above_begun x s ts a.1)
 
-above_both : (s : List ℕ) (ss ts : List (List ℕ)) → Above face_cmp s ss → Above face_cmp s ts → Above face_cmp s (ss ++ ts)
+pub above_both : (s : List ℕ) (ss ts : List (List ℕ)) → Above face_cmp s ss → Above face_cmp s ts → Above face_cmp s (ss ++ ts)
 above_both s [] ts a b = b
 above_both s (r ∷ ss) ts a b = (a.0, above_both s ss ts a.1 b)
 

@@ -14,3 +14,4 @@ pub use complex::{Complex, ComplexFault, put_all_in, take_all_out};
 pub use face::{Face, FaceFault};
 pub use labels::Labels;
 pub use map::{MapFault, VertexMap};
+pub use relabel::image_of;

@@ -2,6 +2,7 @@
 ghost use Rattle.std.specs.Prelude.{◌≡◌, ◌≤◌, ◌+◌, ◌++◌, ℕ, IfOk, OnOk, MatchOption, true, false};
 ghost use Rattle.std.specs.List.{list_all};
 ghost use Rattle.std.specs.Option.{SomeIff};
+ghost use Rattle.complex_core.specs.Labels.{IsFace};
 ghost use Rattle.complex_core.specs.Maps.{takes, takes_all, face_image, face_images, renamed, names_of, used, greatest, next_after, turned};
 
 use crate::{Complex, Face, VertexMap};
@@ -47,9 +48,10 @@ impl Complex {
     }
 }
 
-// What a face becomes, where each of its labels has a pair.
-fn image_of(map: &VertexMap, face: &Face) -> Option<Face>
-    ensures { SomeIff result (list_all (takes map.now) face.now ≡ true) (face_image map.now face.now) }
+/// What a face becomes under a map, rising. `None` exactly where a label has no pair. It takes no memory.
+pub fn image_of(map: &VertexMap, face: &Face) -> Option<Face>
+    ensures image { SomeIff result (list_all (takes map.now) face.now ≡ true) (face_image map.now face.now) }
+    ensures face { IsFace face.now }
 {
     let mut image = Face::new();
     for label in face.labels().as_slice() {

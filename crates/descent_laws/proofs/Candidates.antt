@@ -15,10 +15,10 @@ use Rattle.complex_core.proofs.Sets.{above_head, among, same_members, Above}
 use Rattle.complex_core.proofs.Sorting.{exact_faces}
 use Rattle.complex_core.proofs.Laws.{both_ways, or_left, or_right}
 use Rattle.flip_rules.specs.declared.flip.Flip.{Flip}
-use Rattle.pseudo_test.proofs.Subsets.{two, clash}
 use Rattle.descent_laws.specs.Descents.{IsReducing, best_cmp}
 use Rattle.descent_laws.specs.Laws.{CandidatesAreOne, FirstIsBest, NoneIsMinimal}
 use Rattle.descent_laws.proofs.Reducing.{same_flip}
+use Rattle.complex_core.proofs.SubsetLists.{two, clash}
 
 pub best_total : IsTotalOrder best_cmp
 best_total = then_total (back_total (on_total (λ (f : Flip). length f.b) nat_cmp_total)) (then_total (on_total (λ (f : Flip). f.a) nat_list_cmp_total) (on_total (λ (f : Flip). f.b) nat_list_cmp_total))
@@ -38,7 +38,7 @@ best_exact f g h =
     let t : ordering_then (face_cmp f.a g.a) (face_cmp f.b g.b) ≡ Equal = then_second (nat_cmp (length g.b) (length f.b)) (ordering_then (face_cmp f.a g.a) (face_cmp f.b g.b)) h in
     same_flip f g (exact_faces f.a g.a (then_first (face_cmp f.a g.a) (face_cmp f.b g.b) t)) (exact_faces f.b g.b (then_second (face_cmp f.a g.a) (face_cmp f.b g.b) t))
 
-equal_is : (o : Ordering) → is_eq o ≡ true → o ≡ Equal
+pub equal_is : (o : Ordering) → is_eq o ≡ true → o ≡ Equal
 equal_is Less h = cc
 equal_is Equal h = refl
 equal_is Greater h = cc

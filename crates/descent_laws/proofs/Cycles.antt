@@ -12,17 +12,15 @@ use Rattle.complex_core.specs.Rising.{rising}
 use Rattle.complex_core.specs.Spaces.{Space, IsComplex, IsFacet, over, is_held, is_facet}
 use Rattle.complex_core.proofs.Sets.{above_head, above_tail, sorted_put, sorted_rising}
 use Rattle.complex_core.proofs.Faces.{less_cmp, face_put, with_new}
-use Rattle.complex_core.proofs.SubsetLists.{above_at, part_is_face}
+use Rattle.complex_core.proofs.SubsetLists.{above_at, part_is_face, two, clash}
 use Rattle.complex_core.proofs.Laws.{both_ways, has-with, holds_has, or_left, or_right, listed, listed-filter, listed-rising, found, some_has, some_listed, same_lists, same_sets_is, same_set_itself, length-without, nat_eq_is, nat_eq_same}
 use Rattle.flip_rules.specs.Boundaries.{IsBoundary}
 use Rattle.flip_rules.specs.Flips.{sides, Legal}
 use Rattle.flip_rules.specs.declared.flip.Flip.{Flip}
 use Rattle.flip_rules.proofs.Links.{side, side_of, listed-sides}
 use Rattle.flip_rules.proofs.Legal.{legal_from}
-use Rattle.face_counts.proofs.Parts.{pure_at}
 use Rattle.pseudo_test.specs.Ridges.{count}
 use Rattle.pseudo_test.specs.Chains.{Near}
-use Rattle.pseudo_test.proofs.Subsets.{two, clash, in_without}
 use Rattle.pseudo_test.proofs.Sided.{found_set}
 use Rattle.pseudo_test.proofs.Spreading.{apart_law}
 use Rattle.flip_laws.specs.Keeping.{Keeps}
@@ -33,6 +31,8 @@ use Rattle.descent_laws.specs.Laws.{IsCycle, CycleReduces, CycleEnds, Descends}
 use Rattle.descent_laws.proofs.Reducing.{other_label}
 use Rattle.descent_laws.proofs.DescentRuns.{descent_descends}
 use Rattle.descent_laws.proofs.Edges.{edge, edge_first, edge_second, edge_has, edge_lacks, edge_sorted, edge_length, edge_is, edge_swap, one_sorted, side_edge, HasTwo, same_two, these_two, Differ, differ_two}
+use Rattle.complex_core.proofs.Members.{in_without}
+use Rattle.complex_core.proofs.SetLists.{pure_at}
 
 -- a set of one label
 one_label : (r : List ℕ) → length r ≡ 1 → (p : ℕ) × (r ≡ p ∷ [])

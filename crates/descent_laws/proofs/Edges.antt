@@ -1,5 +1,5 @@
 -- Sets of two labels.
-use Rattle.std.proofs.Common.{◌≡◌, ◌≢◌, ℕ, Bool, true, false, nat_eq, ◌||◌, List, [], ◌∷◌, length, sym, ◌∙◌, ap, refl, arith, ◌⊎◌, inl, inr}
+use Rattle.std.proofs.Common.{◌≡◌, ◌≢◌, ℕ, true, false, nat_eq, ◌||◌, List, [], ◌∷◌, length, sym, ◌∙◌, ap, refl, arith, ◌⊎◌, inl, inr}
 use Rattle.std.specs.List.Sorted.{IsStrictlySortedBy}
 use Rattle.std.specs.Ordering.{nat_cmp}
 use Rattle.std.specs.Cmp.Lexicographic.{pointwise, nat_list_cmp_total}
@@ -10,14 +10,12 @@ use Rattle.complex_core.proofs.Sets.{above_head, above_cons, sorted_none, sorted
 use Rattle.complex_core.proofs.Faces.{with_new}
 use Rattle.complex_core.proofs.Laws.{both_ways, has-union, has-with, or_left, or_right, listed, same_labels, same_lists, sorted_union, same_sets_is, same_set_itself, nat_eq_is, nat_eq_same}
 use Rattle.flip_rules.proofs.Links.{side}
-use Rattle.pseudo_test.proofs.Subsets.{clash, not_true, in_without, without_has, without_other}
-
-either : (p q : Bool) → (p || q) ≡ true → (p ≡ true) ⊎ (q ≡ true)
-either true q h = inl refl
-either false q h = inr h
+use Rattle.std.proofs.lemmas.Bool.{false_from_ne_true, or_cases}
+use Rattle.complex_core.proofs.SubsetLists.{clash}
+use Rattle.complex_core.proofs.Members.{without_has, without_other, in_without}
 
 one_has : (p z : ℕ) → has (p ∷ []) z ≡ true → z ≡ p
-one_has p z h = elim (either (nat_eq p z) false h) [ inl e ↦ sym (nat_eq_is p z e) | inr f ↦ clash true refl (sym f) ]
+one_has p z h = elim (or_cases (nat_eq p z) false h) [ inl e ↦ sym (nat_eq_is p z e) | inr f ↦ clash true refl (sym f) ]
 
 pub has_one : (p : ℕ) → has (p ∷ []) p ≡ true
 has_one p = or_left (nat_eq p p) false (nat_eq_same p)
@@ -33,10 +31,10 @@ pub edge_second : (p q : ℕ) → has (edge p q) q ≡ true
 edge_second p q = has-with (p ∷ []) q q ∙ or_left (nat_eq q q) (has (p ∷ []) q) (nat_eq_same q)
 
 pub edge_has : (p q z : ℕ) → has (edge p q) z ≡ true → (z ≡ p) ⊎ (z ≡ q)
-edge_has p q z h = elim (either (nat_eq q z) (has (p ∷ []) z) (sym (has-with (p ∷ []) q z) ∙ h)) [ inl e ↦ inr (sym (nat_eq_is q z e)) | inr t ↦ inl (one_has p z t) ]
+edge_has p q z h = elim (or_cases (nat_eq q z) (has (p ∷ []) z) (sym (has-with (p ∷ []) q z) ∙ h)) [ inl e ↦ inr (sym (nat_eq_is q z e)) | inr t ↦ inl (one_has p z t) ]
 
 pub edge_lacks : (p q z : ℕ) → (z ≢ p) → (z ≢ q) → has (edge p q) z ≡ false
-edge_lacks p q z np nq = not_true (has (edge p q) z) (λ t. elim (edge_has p q z t) [ inl e ↦ np e | inr e ↦ nq e ])
+edge_lacks p q z np nq = false_from_ne_true (has (edge p q) z) (λ t. elim (edge_has p q z t) [ inl e ↦ np e | inr e ↦ nq e ])
 
 pub one_sorted : (p : ℕ) → IsStrictlySortedBy nat_cmp (p ∷ [])
 one_sorted p = above_cons nat_cmp p [] tt (sorted_none nat_cmp)
@@ -45,7 +43,7 @@ pub edge_sorted : (p q : ℕ) → IsStrictlySortedBy nat_cmp (edge p q)
 edge_sorted p q = sorted_put nat_cmp_total q (p ∷ []) (one_sorted p)
 
 pub edge_length : (p q : ℕ) → (p ≢ q) → length (edge p q) ≡ 2
-edge_length p q n = with_new (p ∷ []) q (not_true (has (p ∷ []) q) (λ t. n (sym (one_has p q t))))
+edge_length p q n = with_new (p ∷ []) q (false_from_ne_true (has (p ∷ []) q) (λ t. n (sym (one_has p q t))))
 
 -- the labels of a set of two
 pair_of : (w : List ℕ) (p q z : ℕ) → length w ≡ 2 → has w p ≡ true → has w q ≡ true → (p ≢ q) → has w z ≡ true → (z ≡ p) ⊎ (z ≡ q)
@@ -55,7 +53,7 @@ pair_of (x ∷ y ∷ u ∷ us) p q z n tp tq d tz = absurd (omega (arith, n))
 pair_of (x ∷ y ∷ []) p q z n tp tq d tz = at (of p tp) (of q tq) (of z tz)
   where
     of : (v : ℕ) → has (x ∷ y ∷ []) v ≡ true → (v ≡ x) ⊎ (v ≡ y)
-    of v t = elim (either (nat_eq x v) (has (y ∷ []) v) t) [ inl e ↦ inl (sym (nat_eq_is x v e)) | inr e ↦ inr (one_has y v e) ]
+    of v t = elim (or_cases (nat_eq x v) (has (y ∷ []) v) t) [ inl e ↦ inl (sym (nat_eq_is x v e)) | inr e ↦ inr (one_has y v e) ]
 
     at : (p ≡ x) ⊎ (p ≡ y) → (q ≡ x) ⊎ (q ≡ y) → (z ≡ x) ⊎ (z ≡ y) → (z ≡ p) ⊎ (z ≡ q)
     at (inl a) (inl b) c = absurd (d (a ∙ sym b))
@@ -79,7 +77,7 @@ pub side_edge : (v x y : ℕ) → (v ≢ x) → (v ≢ y) → (x ≢ y) → side
 side_edge v x y vx vy xy = same_labels (side (v ∷ []) (edge x y) x) (edge v y) (sorted_union (v ∷ []) (without (edge x y) x) (one_sorted v)) (edge_sorted v y) (λ z.
     has-union (v ∷ []) (without (edge x y) x) z ∙
     both_ways (has (v ∷ []) z || has (without (edge x y) x) z) (has (edge v y) z)
-    (λ t. elim (either (has (v ∷ []) z) (has (without (edge x y) x) z) t) [
+    (λ t. elim (or_cases (has (v ∷ []) z) (has (without (edge x y) x) z) t) [
       | inl a ↦ ap (has (edge v y)) (one_has v z a) ∙ edge_first v y
       | inr b ↦ elim (edge_has x y z (without_has (edge x y) x z b)) [ inl c ↦ absurd (without_other (edge x y) x z b c) | inr c ↦ ap (has (edge v y)) c ∙ edge_second v y ]
     ])
@@ -102,11 +100,11 @@ same_two fs gs s t p q h k = same_lists fs gs p q (λ f. both_ways (listed fs f)
     into : (fs gs : List (List ℕ)) → HasTwo fs s t → HasTwo gs s t → (f : List ℕ) → listed fs f ≡ true → listed gs f ≡ true
     into fs gs h k f u = elim (h.only f u) [ inl e ↦ ap (listed gs) e ∙ k.first | inr e ↦ ap (listed gs) e ∙ k.second ]
 
-one_listed : (g h : List ℕ) → listed (g ∷ []) h ≡ true → h ≡ g
-one_listed g h t = elim (either (pointwise nat_eq g h) false t) [ inl e ↦ sym (same_sets_is g h e) | inr f ↦ clash true refl (sym f) ]
+pub one_listed : (g h : List ℕ) → listed (g ∷ []) h ≡ true → h ≡ g
+one_listed g h t = elim (or_cases (pointwise nat_eq g h) false t) [ inl e ↦ sym (same_sets_is g h e) | inr f ↦ clash true refl (sym f) ]
 
 two_listed : (x y h : List ℕ) → listed (x ∷ y ∷ []) h ≡ true → (h ≡ x) ⊎ (h ≡ y)
-two_listed x y h t = elim (either (pointwise nat_eq x h) (listed (y ∷ []) h) t) [ inl e ↦ inl (sym (same_sets_is x h e)) | inr e ↦ inr (one_listed y h e) ]
+two_listed x y h t = elim (or_cases (pointwise nat_eq x h) (listed (y ∷ []) h) t) [ inl e ↦ inl (sym (same_sets_is x h e)) | inr e ↦ inr (one_listed y h e) ]
 
 -- any two different sets of a list of two
 pub these_two : (fs : List (List ℕ)) (s t : List ℕ) → length fs ≡ 2 → listed fs s ≡ true → listed fs t ≡ true → (s ≢ t) → HasTwo fs s t

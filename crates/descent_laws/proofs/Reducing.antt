@@ -1,22 +1,22 @@
 -- Legal flips of an index above d/2: A determines B, and one of them at most is the best.
 use Rattle.std.proofs.Common.{◌≡◌, ◌≢◌, ℕ, ◌<◌, ◌≤◌, Bool, true, false, nat_eq, ◌||◌, List, [], ◌∷◌, length, sym, ◌∙◌, ap, refl, subst, arith, inl, inr}
 use Rattle.std.specs.List.Sorted.{IsStrictlySortedBy}
-use Rattle.std.specs.Ordering.{nat_cmp, ordering_reverse}
-use Rattle.std.specs.Cmp.Lexicographic.{pointwise, nat_list_cmp_total}
-use Rattle.std.specs.declared.cmp.Ordering.TheVariants.{Less, Equal, Greater}
-use Rattle.complex_core.specs.Labels.{has, without, face_cmp, IsFace}
+use Rattle.std.specs.Ordering.{nat_cmp}
+use Rattle.std.specs.Cmp.Lexicographic.{pointwise}
+use Rattle.complex_core.specs.Labels.{has, without, IsFace}
 use Rattle.complex_core.specs.Spaces.{Space, over}
 use Rattle.complex_core.proofs.Sets.{above_head, above_tail}
 use Rattle.complex_core.proofs.Faces.{less_cmp}
-use Rattle.complex_core.proofs.Sorting.{exact_faces}
 use Rattle.complex_core.proofs.Laws.{both_ways, has-union, or_left, or_right, listed, listed-rising, same_labels, some_has, same_set_itself, nat_eq_is, nat_eq_same}
 use Rattle.flip_rules.specs.Flips.{sides, Legal}
 use Rattle.flip_rules.specs.declared.flip.Flip.{Flip}
 use Rattle.flip_rules.proofs.Links.{side, side_of, listed-sides}
 use Rattle.flip_rules.proofs.Legal.{legal}
-use Rattle.pseudo_test.proofs.Subsets.{two, clash, in_without, without_has}
 use Rattle.descent_laws.specs.Descents.{IsReducing}
 use Rattle.descent_laws.specs.Laws.{FirstDetermines, BestIsOne}
+use Rattle.complex_core.proofs.SubsetLists.{two, clash}
+use Rattle.complex_core.proofs.Members.{without_has, in_without}
+use Rattle.complex_core.proofs.SetLists.{neither_less}
 
 -- flips with the same faces
 pub same_flip : (f g : Flip) → f.a ≡ g.a → f.b ≡ g.b → f ≡ g
@@ -67,17 +67,7 @@ first_determines k f g r s e =
 
 -- ---- the best
 
-greater_back : (x y : List ℕ) → face_cmp x y ≡ Greater → face_cmp y x ≡ Less
-greater_back x y e = nat_list_cmp_total.antisymm y x ∙ ap ordering_reverse e
-
-neither : (x y : List ℕ) → (face_cmp x y ≡ Less → ⊥) → (face_cmp y x ≡ Less → ⊥) → x ≡ y
-neither x y p q = elim (face_cmp x y) as (λ o. face_cmp x y ≡ o → x ≡ y) [
-  | Less ↦ λ e. absurd (p e)
-  | Equal ↦ λ e. exact_faces x y e
-  | Greater ↦ λ e. absurd (q (greater_back x y e))
-] refl
-
 pub best_is_one : BestIsOne
 best_is_one k f g p q =
     let n : length f.b ≡ length g.b = omega (arith, p.greatest g q.reduces, q.greatest f p.reduces) in
-    first_determines k f g p.reduces q.reduces (neither f.a g.a (q.least f p.reduces n) (p.least g q.reduces (sym n)))
+    first_determines k f g p.reduces q.reduces (neither_less f.a g.a (q.least f p.reduces n) (p.least g q.reduces (sym n)))

@@ -15,7 +15,9 @@ use Rattle.face_counts.specs.Faces.{parts, is_some, faces, number}
 use Rattle.face_counts.specs.Eulers.{odd, total, sign, power, signed, alternating}
 use Rattle.face_counts.specs.Laws.{EulerLaw}
 use Rattle.complex_core.proofs.SubsetLists.{clash, fewer}
-use Rattle.face_counts.proofs.Parts.{Sets, sets_of, pure_at, found_set, face_is}
+use Rattle.face_counts.proofs.Parts.{Sets, sets_of, face_is}
+use Rattle.std.proofs.lemmas.Bool.{lt-ltb}
+use Rattle.complex_core.proofs.SetLists.{found_set, pure_at}
 
 lt_zero : (m : ℕ) → nat_lt m 0 ≡ false
 lt_zero m = grind (arith, nat_tests)
@@ -28,9 +30,6 @@ lt_self m n h = grind (arith, nat_tests)
 
 lt_suc : (m n : ℕ) → m ≡ n → nat_lt m (suc n) ≡ true
 lt_suc m n h = grind (arith, nat_tests)
-
-lt_true : (m n : ℕ) → m < n → nat_lt m n ≡ true
-lt_true m n h = grind (arith, nat_tests)
 
 signed_more : (c : Bool) (s : List ℕ) (ys : List (List ℕ)) → signed c (length (s ∷ ys)) ≡ cond c (negsuc 0) (pos 1) +ℤ signed c (length ys)
 signed_more true s ys = omega (arith, ints)
@@ -74,7 +73,7 @@ total_alternates n [] h = sym (alternating_none n)
 total_alternates n (s ∷ xs) h =
     let p : (m : ℕ) × (length s ≡ m + 1) × (m < n) = h s (or_left (pointwise nat_eq s s) (listed xs s) (same_set_itself s)) in
     let g : total sign xs ≡ alternating xs n = total_alternates n xs (λ r t. h r (or_right (pointwise nat_eq s r) (listed xs r) t)) in
-    (λ i. sign_is s p.0 p.1 i +ℤ g i) ∙ sym (alternating_more s xs p.0 p.1 n ∙ ap (λ c. cond c (power p.0) (pos 0) +ℤ alternating xs n) (lt_true p.0 n p.2))
+    (λ i. sign_is s p.0 p.1 i +ℤ g i) ∙ sym (alternating_more s xs p.0 p.1 n ∙ ap (λ c. cond c (power p.0) (pos 0) +ℤ alternating xs n) (lt-ltb p.0 n p.2))
 
 size_of : (s : List ℕ) (n : ℕ) → is_some s ≡ true → length s ≤ n → (m : ℕ) × (length s ≡ m + 1) × (m < n)
 size_of [] n t l = clash true refl (sym t)

@@ -18,24 +18,7 @@ use Rattle.complex_core.proofs.SubsetLists.{two, clash, Chosen, chosen_is, chose
 use Rattle.face_counts.specs.Faces.{subsets, parts, is_some, faces}
 use Rattle.face_counts.specs.Laws.{FacesLaw}
 use Rattle.face_counts.proofs.Sizes.{listed-subsets_of, any_both}
-
-pub listed-flat_map : (g : List ℕ → List (List ℕ)) (fs : List (List ℕ)) (r : List ℕ) → listed (flat_map g fs) r ≡ list_any (λ f. listed (g f) r) fs
-listed-flat_map g [] r = refl
-listed-flat_map g (f ∷ fs) r = listed-append (g f) (flat_map g fs) r ∙ ap (λ c. listed (g f) r || c) (listed-flat_map g fs r)
-
-pub found_set : (q : List ℕ → Bool) (fs : List (List ℕ)) → list_any q fs ≡ true → (f : List ℕ) × (listed fs f ≡ true) × (q f ≡ true)
-found_set q [] t = clash true refl (sym t)
-found_set q (f ∷ fs) t = elim (two (q f)) [
-  | inl e ↦ (f, or_left (pointwise nat_eq f f) (listed fs f) (same_set_itself f), e)
-  | inr e ↦ let p : (f : List ℕ) × (listed fs f ≡ true) × (q f ≡ true) = found_set q fs (sym (ap (λ c. c || list_any q fs) e) ∙ t) in (p.0, or_right (pointwise nat_eq f p.0) (listed fs p.0) p.1, p.2)
-]
-
-pub pure_at : (d : ℕ) (fs : List (List ℕ)) (f : List ℕ) → AllByRecursion (IsFacet d) fs → listed fs f ≡ true → IsFacet d f
-pure_at d [] f h t = clash true refl (sym t)
-pure_at d (g ∷ gs) f h t = elim (two (pointwise nat_eq g f)) [
-  | inl e ↦ let P : List ℕ → Type 0 = λ m. IsFacet d m in subst P (same_sets_is g f e) h.0
-  | inr e ↦ pure_at d gs f h.1 (sym (ap (λ c. c || listed gs f) e) ∙ t)
-]
+use Rattle.complex_core.proofs.SetLists.{listed-flat_map, found_set, pure_at}
 
 -- ---- subsets
 

@@ -6,14 +6,12 @@ use Rattle.std.proofs.lemmas.Bool.Decides.{nat_tests}
 use Rattle.complex_core.specs.Subsets.{subsets_of}
 use Rattle.complex_core.proofs.Laws.{listed, listed-append, or_left}
 use Rattle.face_counts.specs.Faces.{subsets}
+use Rattle.complex_core.proofs.Booleans.{and_false}
+use Rattle.complex_core.proofs.SetLists.{listed-begun}
 
 shared : (a b c : Bool) → ((a && b) || (a && c)) ≡ (a && (b || c))
 shared true b c = refl
 shared false b c = refl
-
-never : (a : Bool) → (a && false) ≡ false
-never true = refl
-never false = refl
 
 by_size : (a b c d : Bool) → ((a && (b && c)) || (d && c)) ≡ ((d || (a && b)) && c)
 by_size true true true true = refl
@@ -24,10 +22,6 @@ by_size true false c true = refl
 by_size true false c false = refl
 by_size false b c true = refl
 by_size false b c false = refl
-
-listed-begun : (x y : ℕ) (t : List ℕ) (ss : List (List ℕ)) → listed (map (λ s. x ∷ s) ss) (y ∷ t) ≡ (nat_eq x y && listed ss t)
-listed-begun x y t [] = sym (never (nat_eq x y))
-listed-begun x y t (s ∷ ss) = ap (λ b. (nat_eq x y && pointwise nat_eq s t) || b) (listed-begun x y t ss) ∙ shared (nat_eq x y) (pointwise nat_eq s t) (listed ss t)
 
 none_begun : (x : ℕ) (ss : List (List ℕ)) → listed (map (λ s. x ∷ s) ss) [] ≡ false
 none_begun x [] = refl
@@ -48,14 +42,14 @@ one_less y t n = grind (arith, nat_tests)
 
 pub listed-subsets_of : (n : ℕ) (xs s : List ℕ) → listed (subsets_of n xs) s ≡ (listed (subsets xs) s && nat_eq (length s) n)
 listed-subsets_of zero xs [] = sym (ap (λ b. b && nat_eq (length {A = ℕ} []) 0) (empty_listed xs))
-listed-subsets_of zero xs (y ∷ t) = sym (ap (λ b. listed (subsets xs) (y ∷ t) && b) (no_zero y t) ∙ never (listed (subsets xs) (y ∷ t)))
+listed-subsets_of zero xs (y ∷ t) = sym (ap (λ b. listed (subsets xs) (y ∷ t) && b) (no_zero y t) ∙ and_false (listed (subsets xs) (y ∷ t)))
 listed-subsets_of (suc n) [] [] = sym (zero_no n)
 listed-subsets_of (suc n) [] (y ∷ t) = refl
 listed-subsets_of (suc n) (x ∷ xs) [] =
     listed-append (map (λ s. x ∷ s) (subsets_of n xs)) (subsets_of (suc n) xs) []
     ∙ (λ i. none_begun x (subsets_of n xs) i || listed-subsets_of (suc n) xs [] i)
-    ∙ ap (λ b. listed (subsets xs) [] && b) (zero_no n) ∙ never (listed (subsets xs) [])
-    ∙ sym (ap (λ b. listed (subsets (x ∷ xs)) [] && b) (zero_no n) ∙ never (listed (subsets (x ∷ xs)) []))
+    ∙ ap (λ b. listed (subsets xs) [] && b) (zero_no n) ∙ and_false (listed (subsets xs) [])
+    ∙ sym (ap (λ b. listed (subsets (x ∷ xs)) [] && b) (zero_no n) ∙ and_false (listed (subsets (x ∷ xs)) []))
 listed-subsets_of (suc n) (x ∷ xs) (y ∷ t) =
     listed-append (map (λ s. x ∷ s) (subsets_of n xs)) (subsets_of (suc n) xs) (y ∷ t)
     ∙ (λ i. (listed-begun x y t (subsets_of n xs) ∙ ap (λ b. nat_eq x y && b) (listed-subsets_of n xs t)) i || (listed-subsets_of (suc n) xs (y ∷ t) ∙ ap (λ b. listed (subsets xs) (y ∷ t) && b) (one_less y t n)) i)

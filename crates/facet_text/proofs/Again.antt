@@ -84,7 +84,7 @@ decimal_token at n c bs small stop =
 -- ---- a label
 
 -- each of the labels is at most n
-abbrev AtMost : ℕ → List ℕ → Type 0
+abbrev pub AtMost : ℕ → List ℕ → Type 0
 AtMost n labels = AllByRecursion (λ x. x ≤ n) labels
 
 none_equal : (n low : ℕ) (done : List ℕ) → low < n → AtMost low done → list_any (λ x. nat_eq x n) done ≡ false
@@ -93,7 +93,7 @@ none_equal n low (x ∷ xs) lt all =
     let other : nat_eq x n ≡ false = ne_eqb x n (λ e. omega (arith, all.0)) in
     rw (other, none_equal n low xs lt all.1) refl
 
-put_last : (n low : ℕ) (done : List ℕ) → low < n → AtMost low done → with done n ≡ done ++ n ∷ []
+pub put_last : (n low : ℕ) (done : List ℕ) → low < n → AtMost low done → with done n ≡ done ++ n ∷ []
 put_last n low [] lt all = refl
 put_last n low (x ∷ xs) lt all = put_after n x xs (omega (arith, all.0)) ∙ ap (λ (l : List ℕ). x ∷ l) (put_last n low xs lt all.1)
 

@@ -2,15 +2,14 @@
 use Rattle.std.proofs.Common.{◌≡◌, ◌≤◌, ◌+◌, ℕ, Bool, true, false, ◌||◌, List, [], ◌∷◌, length, refl, sym, ap, ◌∙◌, arith, inl, inr, nat_eq}
 use Rattle.std.specs.List.{AllByRecursion}
 use Rattle.std.specs.Ordering.{nat_cmp}
-use Rattle.std.proofs.lemmas.Bool.{cases_Bool, true≢false}
+use Rattle.std.proofs.lemmas.Bool.{cases_Bool, true≢false, or_parts, or_from}
 use Rattle.complex_core.specs.Labels.{has, with, union}
 use Rattle.complex_core.specs.Rising.{rising}
-use Rattle.std.proofs.lemmas.Cmp.{nat_cmp_total}
-use Rattle.complex_core.proofs.Faces.{among-has, with_new}
-use Rattle.complex_core.proofs.Laws.{has-union, has-with, nat_eq_is, nat_eq_same, or_left, or_right, same_labels, sorted_union}
-use Rattle.complex_core.proofs.Sets.{among-rising, sorted_none, sorted_rising}
+use Rattle.complex_core.proofs.Faces.{with_new}
+use Rattle.complex_core.proofs.Laws.{has-with, nat_eq_is, nat_eq_same, or_left, or_right}
 use Rattle.facet_text.specs.Grammar.{is_label}
 use Rattle.facet_text.specs.Spelling.{AllDiffer, IsGood}
+use Rattle.complex_core.proofs.Images.{union_rising}
 
 -- each of the labels is one, is new, and leaves at most seven
 abbrev pub Fresh : List ℕ → List ℕ → Type 0
@@ -19,13 +18,6 @@ Fresh done (n ∷ ns) = (is_label n ≡ true) × (has done n ≡ false) × (leng
 
 abbrev InRange : List ℕ → Type 0
 InRange ns = AllByRecursion (λ n. (1 ≤ n) × (n ≤ 60000)) ns
-
-or_false : (a b : Bool) → (a || b) ≡ false → (a ≡ false) × (b ≡ false)
-or_false true b e = absurd (true≢false e)
-or_false false b e = (refl, e)
-
-both_false : (a b : Bool) → a ≡ false → b ≡ false → (a || b) ≡ false
-both_false a b e f = rw (e, f) refl
 
 -- another label than one that is not there
 other_label : (ns : List ℕ) (n z : ℕ) → has ns n ≡ false → has ns z ≡ true → nat_eq n z ≡ false
@@ -41,7 +33,7 @@ fresh_from done (n ∷ ns) range differ apart few =
     let new : has done n ≡ false = apart n (or_left (nat_eq n n) (has ns n) (nat_eq_same n)) in
     let count = with_new done n new in
     let later = λ (z : ℕ) (there : has ns z ≡ true).
-    has-with done n z ∙ both_false (nat_eq n z) (has done z) (other_label ns n z differ.0 there) (apart z (or_right (nat_eq n z) (has ns z) there)) in
+    has-with done n z ∙ or_from (nat_eq n z) (has done z) (other_label ns n z differ.0 there) (apart z (or_right (nat_eq n z) (has ns z) there)) in
     (good, new, omega arith, fresh_from (with done n) ns range.1 differ.1 later (omega arith))
 
 pub fresh_labels : (ns : List ℕ) → IsGood ns → Fresh [] ns
@@ -52,18 +44,11 @@ fresh_count : (done ns : List ℕ) → Fresh done ns → length (union done ns) 
 fresh_count done [] fresh = omega arith
 fresh_count done (n ∷ ns) fresh = omega (arith, fresh_count (with done n) ns fresh.3, with_new done n fresh.1)
 
-has-rising : (ns : List ℕ) (z : ℕ) → has (rising nat_cmp ns) z ≡ has ns z
-has-rising ns z = sym (among-has z (rising nat_cmp ns)) ∙ among-rising nat_cmp_total z ns ∙ among-has z ns
-
--- in any order of the text they are the rising list
-pub gathered_is : (ns : List ℕ) → union [] ns ≡ rising nat_cmp ns
-gathered_is ns = same_labels (union [] ns) (rising nat_cmp ns) (sorted_union [] ns (sorted_none nat_cmp)) (sorted_rising nat_cmp_total ns) (λ z. has-union [] ns z ∙ sym (has-rising ns z))
-
 pub gathered_count : (ns : List ℕ) → Fresh [] ns → length (rising nat_cmp ns) ≡ length ns
-gathered_count ns fresh = ap length (sym (gathered_is ns)) ∙ fresh_count [] ns fresh ∙ omega arith
+gathered_count ns fresh = ap length (sym (union_rising ns)) ∙ fresh_count [] ns fresh ∙ omega arith
 
 pub gathered : (ns : List ℕ) → IsGood ns → (union [] ns ≡ rising nat_cmp ns) × (length (rising nat_cmp ns) ≡ length ns)
-gathered ns good = (gathered_is ns, gathered_count ns (fresh_labels ns good))
+gathered ns good = (union_rising ns, gathered_count ns (fresh_labels ns good))
 
 -- ---- and back
 
@@ -86,7 +71,7 @@ fresh_apart done (n ∷ ns) fresh =
 
     apart : (done ns : List ℕ) (n z : ℕ) → has done n ≡ false → ((y : ℕ) → has ns y ≡ true → has (with done n) y ≡ false) → (nat_eq n z || has ns z) ≡ true → has done z ≡ false
     apart done ns n z new rest there = elim (cases_Bool (has ns z)) [
-      | inl later ↦ (or_false (nat_eq n z) (has done z) (sym (has-with done n z) ∙ rest z later)).1
+      | inl later ↦ (or_parts (nat_eq n z) (has done z) (sym (has-with done n z) ∙ rest z later)).1
       | inr other ↦ same_new done n z new (only_left (nat_eq n z) (has ns z) there other)
     ]
 

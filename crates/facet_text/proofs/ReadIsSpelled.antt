@@ -3,7 +3,7 @@ use Rattle.std.proofs.Common.{◌≡◌, ◌≤◌, ◌<◌, ◌+◌, ℕ, suc, 
 use Rattle.std.specs.List.{prefix_len, AllByRecursion}
 use Rattle.std.specs.Str.Parse.{digits_value}
 use Rattle.std.specs.Ordering.{nat_cmp}
-use Rattle.std.proofs.lemmas.Bool.{cases_Bool, true≢false}
+use Rattle.std.proofs.lemmas.Bool.{cases_Bool, not-false, and_parts}
 use Rattle.std.proofs.lemmas.List.{append-nil, drop-drop, length-take, take-append-drop}
 use Rattle.complex_core.specs.Labels.{has as has_label, with, union}
 use Rattle.complex_core.specs.Rising.{rising}
@@ -26,7 +26,8 @@ use Rattle.facet_text.specs.Grammar.{Facets, Gives, Reading, after_facet, after_
 use Rattle.std.specs.Prelude.{IfOk}
 use Rattle.facet_text.specs.Spelling.{AreBlanks, AreGood, IsAssign, IsEnding, IsGood, IsName, IsNumber, Spells, Spread, Word, facet_words, list_words, more_facets, more_numbers, spelled, values}
 use Rattle.facet_text.proofs.TokenLaws.{more_at-le, one_token}
-use Rattle.facet_text.proofs.LabelSets.{Fresh, fresh_labels, gathered_count, gathered_is, good_labels}
+use Rattle.facet_text.proofs.LabelSets.{Fresh, fresh_labels, gathered_count, good_labels}
+use Rattle.complex_core.proofs.Images.{union_rising}
 
 -- ---- the bytes of a token
 
@@ -69,15 +70,11 @@ sign_word b = elim (cases_Bool (nat_eq b 91)) [
   ]
 ]
 
-both : (a b : Bool) → (a && b) ≡ true → (a ≡ true) × (b ≡ true)
-both true b e = (refl, e)
-both false b e = absurd (true≢false (sym e))
-
 assign_or_sign : (b : ℕ) (bs : List ℕ) → IsWordOf (cond (is_long_assign b bs) kind.Assign (sign_kind b)) (b ∷ take (cond (is_long_assign b bs) 1 0) bs)
 assign_or_sign b [] = sign_word b
 assign_or_sign b (c ∷ cs) = elim (cases_Bool (nat_eq b 58 && nat_eq c 61)) [
   | inl long ↦
-      let are = both (nat_eq b 58) (nat_eq c 61) long in
+      let are = and_parts (nat_eq b 58) (nat_eq c 61) long in
       let first = nat_eq_is b 58 are.0 in
       let second = nat_eq_is c 61 are.1 in
       rw long (inr (λ i. first i ∷ second i ∷ []))
@@ -153,10 +150,6 @@ passed false f next x e = (refl, e)
 no_fault : (f : TextFault) (x : Space × ℕ) (r : Reading) → r ≡ Err f → r ≡ Ok x → ⊥
 no_fault f x r e g = cc
 
-not_false : (b : Bool) → not b ≡ false → b ≡ true
-not_false true e = refl
-not_false false e = absurd (true≢false e)
-
 most : (n limit : ℕ) → nat_lt limit n ≡ false → n ≤ limit
 most n limit e = grind arith
 
@@ -169,14 +162,14 @@ label_passed start at n done next x e =
     let good = passed (not (is_label n)) _ _ x e in
     let new = passed (has_label done n) _ _ x good.1 in
     let few = passed (nat_lt 7 (length (with done n))) _ _ x new.1 in
-    (not_false (is_label n) good.0, new.0, most (length (with done n)) 7 few.0, few.1)
+    (not-false (is_label n) good.0, new.0, most (length (with done n)) 7 few.0, few.1)
 
 facet_passed : (start : ℕ) (labels : List ℕ) (fs : Facets) (next : Reading) (x : Space × ℕ) → facet_then start labels fs next ≡ Ok x
     → (length labels ≡ 1 → ⊥) × (is_pure fs labels ≡ true) × (next ≡ Ok x)
 facet_passed start labels fs next x e =
     let size = passed (nat_eq (length labels) 1) _ _ x e in
     let pure = passed (not (is_pure fs labels)) _ _ x size.1 in
-    (is_not (length labels) 1 size.0, not_false (is_pure fs labels) pure.0, pure.1)
+    (is_not (length labels) 1 size.0, not-false (is_pure fs labels) pure.0, pure.1)
 
 limits_passed : (k : Space) (next : Reading) (x : Space × ℕ) → limits_then k next ≡ Ok x → (length k.facets ≤ 20000) × (length (labels_of k) ≤ 4096) × (next ≡ Ok x)
 limits_passed k next x e =
@@ -284,7 +277,7 @@ gathered_left : (fs : Facets) (k : Space) (place : ℕ) (bytes : List ℕ) (at :
     → (l : FacetsLeft (fs ++ union [] (vals f) ∷ []) k (drop place bytes)) → Spread (facet_words f (more_facets l.gs l.ending)) (drop at bytes) (drop place bytes)
     → AtFacet fs k place bytes at
 gathered_left fs k place bytes at f are fresh some size pure l s =
-    let is = gathered_is (vals f) in
+    let is = union_rising (vals f) in
     let moved = subst (λ (set : List ℕ). (length set ≡ 1 → ⊥) × (is_pure fs set ≡ true) × (m : FacetsLeft (fs ++ set ∷ []) k (drop place bytes)) × Spread (facet_words f (more_facets m.gs m.ending)) (drop at bytes) (drop place bytes)) is (size, pure, l, s) in
     (f, are, record { fresh = fresh; some = some; size = moved.0; pure = moved.1 }, moved.2, moved.3)
 

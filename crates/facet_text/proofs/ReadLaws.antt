@@ -13,10 +13,10 @@ use Rattle.facet_text.specs.declared.token.Class.TheVariants.{Digit, Letter}
 use Rattle.facet_text.specs.declared.token.TokenKind.TheVariants as kind
 use Rattle.facet_text.specs.Tokens.{has, kind_at, more_at, sign_kind, is_long_assign}
 use Rattle.facet_text.specs.Grammar.{ArePure, Facets, is_pure}
-use Rattle.std.specs.List.{AllByRecursion}
 use Rattle.std.specs.Ordering.{nat_cmp}
 use Rattle.complex_core.specs.Labels.{with}
 use Rattle.complex_core.proofs.Sets.{some_put}
+use Rattle.complex_core.proofs.Members.{each_push}
 
 -- ---- digits
 
@@ -61,10 +61,6 @@ label_digits b bs e =
         rw get_or-take (prefix_len_passes (has Digit) bs k d inside)
 
 -- ---- facets
-
-each_push : {X : Type 0} (P : X → Type 0) (xs : List X) (x : X) → AllByRecursion P xs → P x → AllByRecursion P (xs ++ x ∷ [])
-each_push P [] x all is = (is, tt)
-each_push P (y ∷ ys) x all is = (all.0, each_push P ys x all.1 is)
 
 -- one more facet of the first one's size
 pub pure_more : (fs : Facets) (g : List ℕ) → ArePure fs → is_pure fs g ≡ true → 2 ≤ length g → length g ≤ 7 → ArePure (fs ++ g ∷ [])

@@ -1,17 +1,20 @@
 -- A legal flip keeps strong connectedness.
-use Rattle.std.proofs.Common.{◌≡◌, ◌≢◌, ℕ, true, false, nat_eq, List, [], ◌∷◌, ◌++◌, sym, ◌∙◌, ap, refl, inl, inr, subst, cond}
+use Rattle.std.proofs.Common.{◌≡◌, ◌≢◌, ℕ, true, false, nat_eq, List, [], ◌∷◌, sym, ◌∙◌, ap, refl, inl, inr, cond}
 use Rattle.complex_core.specs.Labels.{has, holds, without}
 use Rattle.complex_core.proofs.Laws.{listed, nat_eq_is, nat_eq_same}
 use Rattle.pseudo_test.specs.Ridges.{IsRidge}
 use Rattle.pseudo_test.specs.Chains.{Near, Linked, Joined, Strong}
 use Rattle.pseudo_test.proofs.Spreading.{here, step, join, near_back}
 use Rattle.flip_laws.proofs.Exchange.{Half, Exchange, turned}
-use Rattle.pseudo_test.proofs.Subsets.{two, clash, not_true, in_without, without_gone, holds_without, holds_through, holds_less, lacking}
+use Rattle.pseudo_test.proofs.Subsets.{holds_without, holds_through, holds_less, lacking}
 use Rattle.flip_laws.proofs.Counting.{in_b, holds_a}
 use Rattle.flip_laws.proofs.RidgesKept.{ridge_was}
+use Rattle.std.proofs.lemmas.Bool.{false_from_ne_true}
+use Rattle.complex_core.proofs.SubsetLists.{two, clash}
+use Rattle.complex_core.proofs.Members.{without_gone, in_without}
 
 not_part : (f r a : List ℕ) → holds f r ≡ true → holds f a ≡ false → holds r a ≡ false
-not_part f r a p q = not_true (holds r a) (λ t. clash {P = ⊥} (holds f a) (holds_through f r a p t) q)
+not_part f r a p q = false_from_ne_true (holds r a) (λ t. clash {P = ⊥} (holds f a) (holds_through f r a p t) q)
 
 -- two facets over B are neighbours, or one
 pub over_b : (gs : List (List ℕ)) (b a w : List ℕ) → Half gs b a w → (y z : ℕ) → has a y ≡ true → has a z ≡ true → Joined gs (without w y) (without w z)

@@ -13,7 +13,10 @@ use Rattle.complex_core.proofs.Sets.{above_cons, sorted_none}
 use Rattle.complex_core.proofs.Laws.{both_ways, holds_each, or_left, or_right, listed, same_sets_is, same_set_itself, listed-filter, same_lists, sorted_without, nat_eq_is, nat_eq_same, length-without}
 use Rattle.pseudo_test.specs.Ridges.{count}
 use Rattle.flip_laws.proofs.Exchange.{Half, Exchange, turned}
-use Rattle.pseudo_test.proofs.Subsets.{two, clash, not_true, in_without, holds_without, holds_through, holds_less, lacking, fewer}
+use Rattle.pseudo_test.proofs.Subsets.{holds_without, holds_through, holds_less, lacking}
+use Rattle.std.proofs.lemmas.Bool.{false_from_ne_true}
+use Rattle.complex_core.proofs.SubsetLists.{two, clash, fewer}
+use Rattle.complex_core.proofs.Members.{in_without}
 
 split : (p q : List ℕ → Bool) (xs : List (List ℕ)) → length (filter p xs) ≡ length (filter p (filter q xs)) + length (filter p (filter (λ x. not (q x)) xs))
 split p q [] = refl
@@ -29,7 +32,7 @@ and_split true true false h = cc
 and_split true false r h = cc
 and_split false q r h = cc
 
-or_none : (c : Bool) → (c || false) ≡ true → c ≡ true
+pub or_none : (c : Bool) → (c || false) ≡ true → c ≡ true
 or_none true h = refl
 or_none false h = h
 
@@ -85,7 +88,7 @@ module _ (fs : List (List ℕ)) (a b w : List ℕ) (h : Half fs a b w) where
     over_none : holds w r ≡ false → over (over fs a) r ≡ []
     over_none t = same_lists (over (over fs a) r) [] (IsStrictlySortedBy-filter face_cmp (λ f. holds f r) (over fs a) (IsStrictlySortedBy-filter face_cmp (λ f. holds f a) fs h.rises)) (sorted_none face_cmp) (λ f.
         listed-filter (λ g. holds g r) (over fs a) f ∙ ap (λ c. c && holds f r) (listed-filter (λ g. holds g a) fs f) ∙
-        not_true ((listed fs f && holds f a) && holds f r) (λ u. let p : (listed fs f ≡ true) × (holds f a ≡ true) × (holds f r ≡ true) = and_split (listed fs f) (holds f a) (holds f r) u in
+        false_from_ne_true ((listed fs f && holds f a) && holds f r) (λ u. let p : (listed fs f ≡ true) × (holds f a ≡ true) × (holds f r ≡ true) = and_split (listed fs f) (holds f a) (holds f r) u in
         let q : (x : ℕ) × (has b x ≡ true) × (f ≡ without w x) = h.outs f p.0 p.1 in
         clash {P = ⊥} (holds w r) (holds_through w (without w q.0) r (holds_without w q.0) (ap (λ g. holds g r) (sym q.2) ∙ p.2)) t))
 

@@ -1,12 +1,11 @@
 -- Complexes of which flips lead from one to an image of the other.
-use Rattle.std.proofs.Common.{◌≡◌, ◌≢◌, ◌↔◌, ℕ, Bool, true, false, IsTrue, List, Option, None, Some, Result, Ok, Err, sym, ◌∙◌, ap, refl}
+use Rattle.std.proofs.Common.{◌≡◌, ◌↔◌, Bool, true, false, IsTrue, Option, None, Some, Result, Ok, Err, sym, ◌∙◌, refl}
 use Rattle.std.specs.Prelude.{IfOk, IfSome, MatchOption}
-use Rattle.std.specs.List.Sorted.{IsStrictlySortedBy}
 use Rattle.std.specs.Ordering.{nat_cmp}
 use Rattle.complex_core.specs.Maps.{at, renamed}
 use Rattle.complex_core.specs.Spaces.{Space, IsComplex}
 use Rattle.complex_core.proofs.Sets.{above_tail}
-use Rattle.face_counts.proofs.Parts.{Sets, pure_at}
+use Rattle.face_counts.proofs.Parts.{Sets}
 use Rattle.flip_laws.specs.declared.difference.Differ.{Differ}
 use Rattle.flip_laws.specs.declared.difference.Differ.TheVariants as differ
 use Rattle.flip_laws.specs.Keeping.{Keeps}
@@ -15,6 +14,7 @@ use Rattle.flip_laws.proofs.Images.{Renames, map_renames}
 use Rattle.flip_laws.proofs.Renaming.{pull, push}
 use Rattle.flip_laws.proofs.RenamedEuler.{euler-images}
 use Rattle.flip_laws.proofs.Replays.{replay_keeps}
+use Rattle.complex_core.proofs.SetLists.{pure_at}
 
 pub image_is_alike : ImageIsAlike
 image_is_alike k l hk hl e =

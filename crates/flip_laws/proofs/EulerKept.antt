@@ -17,12 +17,14 @@ use Rattle.complex_core.proofs.Laws.{both_ways, has-with, has-without, holds_has
 use Rattle.face_counts.specs.Faces.{subsets, parts, is_some, faces}
 use Rattle.face_counts.specs.Eulers.{odd, total, sign, euler}
 use Rattle.flip_laws.proofs.Exchange.{Half, Exchange, turned}
-use Rattle.pseudo_test.proofs.Subsets.{two, clash, not_true, neq_false, without_gone, holds_without, holds_through, holds_less, lacking}
+use Rattle.pseudo_test.proofs.Subsets.{holds_without, holds_through, holds_less, lacking}
 use Rattle.flip_laws.proofs.Counting.{in_a, in_b}
-use Rattle.face_counts.proofs.Parts.{found_set}
 use Rattle.flip_laws.proofs.Totals.{total_pairs, total-filter, total_split, total_pick, Distinct, distinct_sorted, total_same}
-use Rattle.complex_core.proofs.SubsetLists.{map_from, map_back}
+use Rattle.complex_core.proofs.SubsetLists.{map_from, map_back, two, clash}
 use Rattle.face_counts.proofs.Parts.{Sets, part_is, part_from, listed-faces, face_is, faces_rise}
+use Rattle.std.proofs.lemmas.Bool.{not-true, false_from_ne_true, and_left}
+use Rattle.complex_core.proofs.Members.{without_gone, with_back as with_again}
+use Rattle.complex_core.proofs.SetLists.{found_set}
 
 -- ---- sets with a label, and without it
 
@@ -60,18 +62,7 @@ with_back s x r f = same_labels (without (with s x) x) s (sorted_without (with s
     yes_ false = refl
 
     swap : (z x : ℕ) → nat_eq z x ≡ false → nat_eq x z ≡ false
-    swap z x e = not_true (nat_eq x z) (λ t. clash {P = ⊥} (nat_eq z x) (ap (λ v. nat_eq z v) (nat_eq_is x z t) ∙ nat_eq_same z) e)
-
-with_again : (s : List ℕ) (x : ℕ) → IsStrictlySortedBy nat_cmp s → has s x ≡ true → with (without s x) x ≡ s
-with_again s x r t = same_labels (with (without s x) x) s (sorted_put nat_cmp_total x (without s x) (sorted_without s x r)) r (λ z.
-    has-with (without s x) x z ∙ ap (λ c. nat_eq x z || c) (has-without s x z) ∙ elim (two (nat_eq x z)) [
-      | inl e ↦ ap (λ c. c || (has s z && not (nat_eq z x))) e ∙ sym (ap (has s) (sym (nat_eq_is x z e)) ∙ t)
-      | inr e ↦ (λ i. e i || (has s z && not (neq_false z x (λ q. clash {P = ⊥} (nat_eq x z) (ap (nat_eq x) q ∙ nat_eq_same x) e) i))) ∙ keep (has s z)
-    ])
-  where
-    keep : (c : Bool) → (false || (c && not false)) ≡ c
-    keep true = refl
-    keep false = refl
+    swap z x e = false_from_ne_true (nat_eq x z) (λ t. clash {P = ⊥} (nat_eq z x) (ap (λ v. nat_eq z v) (nat_eq_is x z t) ∙ nat_eq_same z) e)
 
 listed_same : (xs : List (List ℕ)) (s t : List ℕ) → s ≡ t → listed xs s ≡ true → listed xs t ≡ true
 listed_same xs s t e p = ap (listed xs) (sym e) ∙ p
@@ -79,7 +70,7 @@ listed_same xs s t e p = ap (listed xs) (sym e) ∙ p
 distinct_with : (x : ℕ) (xs : List (List ℕ)) → Sets xs → ((s : List ℕ) → listed xs s ≡ true → has s x ≡ false) → Distinct xs → Distinct (map (λ s. with s x) xs)
 distinct_with x [] r h d = tt
 distinct_with x (s ∷ xs) r h d = (
-  not_true (listed (map (λ s. with s x) xs) (with s x)) (λ t.
+  false_from_ne_true (listed (map (λ s. with s x) xs) (with s x)) (λ t.
       let q : (m : List ℕ) × (listed xs m ≡ true) × (with s x ≡ with m x) = map_back (λ s. with s x) xs (with s x) t in
       let later : listed (s ∷ xs) q.0 ≡ true = or_right (pointwise nat_eq s q.0) (listed xs q.0) q.1 in
       let now : listed (s ∷ xs) s ≡ true = or_left (pointwise nat_eq s s) (listed xs s) (same_set_itself s) in
@@ -106,10 +97,6 @@ three true true false s h = cc
 three true false r s h = cc
 three false q r s h = cc
 
-not_so : (c : Bool) → not c ≡ true → c ≡ false
-not_so true g = sym g
-not_so false g = refl
-
 module _ (us : List (List ℕ)) (a w : List ℕ) (x : ℕ) (u : Full us w) (xw : has w x ≡ true) (xa : has a x ≡ false) where
   all_between : List (List ℕ)
   all_between = filter (between a w) us
@@ -127,7 +114,7 @@ module _ (us : List (List ℕ)) (a w : List ℕ) (x : ℕ) (u : Full us w) (xw :
   in_less s = listed-filter (λ s. not (has s x)) (filter (between a w) us) s ∙ ap (λ c. c && not (has s x)) (listed-filter (between a w) us s)
 
   less_is : (s : List ℕ) → listed those_less s ≡ true → (listed us s ≡ true) × (holds s a ≡ true) × (holds w s ≡ true) × (has s x ≡ false)
-  less_is s t = let p : (listed us s ≡ true) × (holds s a ≡ true) × (holds w s ≡ true) × (not (has s x) ≡ true) = three (listed us s) (holds s a) (holds w s) (not (has s x)) (sym (in_less s) ∙ t) in (p.0, p.1, p.2, not_so (has s x) p.3)
+  less_is s t = let p : (listed us s ≡ true) × (holds s a ≡ true) × (holds w s ≡ true) × (not (has s x) ≡ true) = three (listed us s) (holds s a) (holds w s) (not (has s x)) (sym (in_less s) ∙ t) in (p.0, p.1, p.2, not-true (has s x) p.3)
 
   down : (s : List ℕ) → listed those_with s ≡ true → listed (map (λ s. with s x) those_less) s ≡ true
   down s t =
@@ -176,7 +163,7 @@ part_old fs a b w s h sa sb = both_ways (is_held fs s) (holds w s)
     some_listed (λ f. holds f s) fs (without w z.0) (h.was z.0 z.1) (holds_less w s z.0 t z.2))
 
 pub part_free : (fs : List (List ℕ)) (a b w s : List ℕ) → Half fs a b w → holds s b ≡ true → is_held fs s ≡ false
-part_free fs a b w s h sb = none_listed (λ f. holds f s) fs (λ f t. not_true (holds f s) (λ p. clash {P = ⊥} (holds f b) (holds_through f s b p sb) (h.free f t)))
+part_free fs a b w s h sb = none_listed (λ f. holds f s) fs (λ f t. false_from_ne_true (holds f s) (λ p. clash {P = ⊥} (holds f b) (holds_through f s b p sb) (h.free f t)))
 
 part_moves : (fs gs : List (List ℕ)) (a b w s : List ℕ) → Exchange fs gs a b w → holds s a ≡ false → is_held fs s ≡ true → is_held gs s ≡ true
 part_moves fs gs a b w s e sa t =
@@ -213,9 +200,6 @@ some_over (y ∷ s) a x t h = refl
 and_true : (c d : Bool) → d ≡ true → (c && d) ≡ c
 and_true true d e = e
 and_true false d e = refl
-
-and_none : (c d : Bool) → c ≡ false → (c && d) ≡ false
-and_none c d e = ap (λ v. v && d) e
 
 module _ (fs gs : List (List ℕ)) (a b w : List ℕ) (e : Exchange fs gs a b w) where
   abbrev all : List (List ℕ)
@@ -267,8 +251,8 @@ module _ (fs gs : List (List ℕ)) (a b w : List ℕ) (e : Exchange fs gs a b w)
       let g : listed (faces gs) s ≡ (is_held gs s && is_some s) = listed-faces gs s new_sets r in
       table (listed (faces fs) s) (listed (faces gs) s) (holds s a) (holds s b) (holds w s) (sign s)
       (λ p q. f ∙ and_true (is_held fs s) (is_some s) (some_over s a e.some_a.0 e.some_a.1 p) ∙ part_old fs a b w s e.old p q)
-      (λ q. f ∙ and_none (is_held fs s) (is_some s) (part_free fs a b w s e.old q))
-      (λ p. g ∙ and_none (is_held gs s) (is_some s) (part_free gs b a w s e.new p))
+      (λ q. f ∙ and_left (is_held fs s) (is_some s) (part_free fs a b w s e.old q))
+      (λ p. g ∙ and_left (is_held gs s) (is_some s) (part_free gs b a w s e.new p))
       (λ q p. g ∙ and_true (is_held gs s) (is_some s) (some_over s b e.some_b.0 e.some_b.1 q) ∙ part_old gs b a w s e.new q p)
       (λ p q. f ∙ ap (λ c. c && is_some s) (part_same fs gs a b w s e p q) ∙ sym g)
 

@@ -1,5 +1,5 @@
 -- What a legal flip does to the facets, told alike from both ends.
-use Rattle.std.proofs.Common.{◌≡◌, ◌≢◌, ℕ, ◌+◌, Bool, true, false, not, nat_eq, ◌||◌, ◌&&◌, List, [], ◌∷◌, length, sym, ◌∙◌, ap, refl, arith}
+use Rattle.std.proofs.Common.{◌≡◌, ℕ, ◌+◌, Bool, true, false, not, nat_eq, ◌||◌, ◌&&◌, List, length, sym, ◌∙◌, ap, refl, arith}
 use Rattle.std.specs.List.Sorted.{IsStrictlySortedBy}
 use Rattle.std.specs.Cmp.Lexicographic.{pointwise}
 use Rattle.std.specs.Ordering.{nat_cmp}
@@ -8,13 +8,13 @@ use Rattle.std.specs.Cmp.Derive.{both_true}
 use Rattle.complex_core.specs.Labels.{has, holds, union, without, face_cmp, IsFace}
 use Rattle.complex_core.specs.Spaces.{Space, IsComplex, IsFacet, is_held}
 use Rattle.complex_core.proofs.Sets.{above_tail}
-use Rattle.complex_core.proofs.Laws.{has-union, has-without, listed, listed-filter, listed-rising, same_labels, sorted_union, sorted_without, length-union_apart, some_has, same_set_itself, nat_eq_is, nat_eq_same, or_left, some_listed}
+use Rattle.complex_core.proofs.Laws.{has-union, has-without, listed, listed-filter, listed-rising, same_labels, sorted_union, sorted_without, length-union_apart, some_has, same_set_itself, nat_eq_is, some_listed, keep_other}
 use Rattle.flip_rules.specs.Flips.{sides, flipped, Legal}
-use Rattle.face_counts.proofs.Parts.{pure_at}
 use Rattle.flip_rules.proofs.Links.{side, side_of, sides_hold, listed-sides, listed-flipped}
 use Rattle.flip_rules.proofs.Legal.{legal_from}
-use Rattle.flip_rules.proofs.Back.{legal_back}
+use Rattle.flip_rules.proofs.Back.{legal_back, first_label}
 use Rattle.flip_rules.proofs.Replays.{complex_flipped}
+use Rattle.complex_core.proofs.SetLists.{pure_at}
 
 -- a set of facets, before the flip (a, b)
 pub record Half (fs : List (List ℕ)) (a b w : List ℕ) : Type 0 where
@@ -43,11 +43,6 @@ or_swap true false = refl
 or_swap false true = refl
 or_swap false false = refl
 
-keep_other : (a b c : Bool) → (a ≡ true → c ≡ false) → (a || (b && not c)) ≡ ((a || b) && not c)
-keep_other true b true h = h refl
-keep_other true b false h = refl
-keep_other false b c h = refl
-
 neq_apart : (xs : List ℕ) (x z : ℕ) → has xs x ≡ false → has xs z ≡ true → nat_eq z x ≡ false
 neq_apart xs x z f t = elim (nat_eq z x) as (λ c. nat_eq z x ≡ c → c ≡ false) [ true ↦ λ e. let g : true ≡ false = sym t ∙ ap (has xs) (nat_eq_is z x e) ∙ f in g | false ↦ λ e. refl ] refl
 
@@ -61,10 +56,6 @@ side_is a b w x s r both f = same_labels (side a b x) (without w x) (sorted_unio
 
 free_of : (k : Space) (b : List ℕ) → is_held k.facets b ≡ false → (f : List ℕ) → listed k.facets f ≡ true → holds f b ≡ false
 free_of k b n f t = elim (holds f b) as (λ c. holds f b ≡ c → c ≡ false) [ true ↦ λ e. sym (some_listed (λ g. holds g b) k.facets f t e) ∙ n | false ↦ λ e. refl ] refl
-
-first_label : (a : List ℕ) → (length a ≢ 0) → (x : ℕ) × (has a x ≡ true)
-first_label [] n = absurd (n (omega arith))
-first_label (x ∷ xs) n = (x, or_left (nat_eq x x) (has xs x) (nat_eq_same x))
 
 half : (k : Space) (a b w : List ℕ) → IsComplex k → IsFace a → IsStrictlySortedBy nat_cmp w → length w ≡ k.dim + 2 → ((z : ℕ) → has w z ≡ (has a z || has b z)) → Legal k a b → Half k.facets a b w
 half k a b w h fa s n both l = record {

@@ -14,13 +14,12 @@ use Rattle.complex_core.proofs.Laws.{both_ways, holds_has, holds_each, or_left, 
 use Rattle.face_counts.specs.Faces.{faces, is_some}
 use Rattle.face_counts.specs.Eulers.{odd, total, sign, euler}
 use Rattle.flip_laws.proofs.Images.{image, images}
-use Rattle.face_counts.proofs.Parts.{pure_at}
-use Rattle.pseudo_test.proofs.Subsets.{two, clash, holds_through}
-use Rattle.face_counts.proofs.Parts.{found_set}
+use Rattle.pseudo_test.proofs.Subsets.{holds_through}
 use Rattle.flip_laws.proofs.Totals.{distinct_sorted, total_same}
-use Rattle.complex_core.proofs.SubsetLists.{map_from, map_back}
+use Rattle.complex_core.proofs.SubsetLists.{map_from, map_back, two, clash}
 use Rattle.face_counts.proofs.Parts.{Sets, listed-faces, face_is, faces_rise}
 use Rattle.flip_laws.proofs.Renaming.{in_image, image_has, image_rises, holds-image, image_one, length-image, listed_image, image_listed, distinct_map}
+use Rattle.complex_core.proofs.SetLists.{found_set}
 
 in_filter : (p : ℕ → Bool) (f : List ℕ) (x : ℕ) → has f x ≡ true → p x ≡ true → has (filter p f) x ≡ true
 in_filter p [] x t q = t

@@ -13,35 +13,21 @@ use Rattle.std.proofs.lemmas.List.Kept.{IsStrictlySortedBy-filter}
 use Rattle.complex_core.specs.Labels.{has, holds, without, face_cmp}
 use Rattle.complex_core.specs.Rising.{rising, put}
 use Rattle.complex_core.specs.Spaces.{over}
-use Rattle.complex_core.proofs.Sets.{among, among-rising, above_head, above_tail, not_among, sorted_rising, length-put_new}
+use Rattle.complex_core.proofs.Sets.{among, above_head, above_tail, not_among, sorted_rising, length-put_new}
 use Rattle.complex_core.proofs.Faces.{among-has, less_cmp}
 use Rattle.complex_core.proofs.Laws.{both_ways, holds_has, holds_each, or_left, or_right, listed, same_sets_is, same_set_itself, listed-filter, listed-rising, listed-among, same_lists, same_labels, sorted_without, nat_eq_is, nat_eq_same}
 use Rattle.pseudo_test.specs.Ridges.{count}
 use Rattle.orient_test.specs.Signs.{odd}
 use Rattle.orient_test.specs.Signs.{times, place, induced, Orientable}
 use Rattle.flip_laws.proofs.Images.{image, images}
-use Rattle.pseudo_test.proofs.Subsets.{two, clash, not_true, in_without, without_has, without_other, holds_without, holds_through}
+use Rattle.pseudo_test.proofs.Subsets.{holds_without, holds_through}
 use Rattle.flip_laws.proofs.Totals.{Distinct, distinct_sorted}
-use Rattle.complex_core.proofs.SubsetLists.{above_at, map_from, map_back}
+use Rattle.complex_core.proofs.SubsetLists.{above_at, map_from, map_back, two, clash}
 use Rattle.face_counts.proofs.Parts.{Sets}
-use Rattle.flip_laws.proofs.SignsKept.{without_none, cancel, odd_more, lt_turn}
-
-has-rising : (ks : List ℕ) (z : ℕ) → has (rising nat_cmp ks) z ≡ has ks z
-has-rising ks z = sym (among-has z (rising nat_cmp ks)) ∙ among-rising nat_cmp_total z ks ∙ among-has z ks
-
-has-map : (m : ℕ → ℕ) (f : List ℕ) (x : ℕ) → has f x ≡ true → has (map m f) (m x) ≡ true
-has-map m [] x t = t
-has-map m (y ∷ f) x t = elim (two (nat_eq y x)) [
-  | inl e ↦ or_left (nat_eq (m y) (m x)) (has (map m f) (m x)) (ap (λ v. nat_eq (m v) (m x)) (nat_eq_is y x e) ∙ nat_eq_same (m x))
-  | inr e ↦ or_right (nat_eq (m y) (m x)) (has (map m f) (m x)) (has-map m f x (sym (ap (λ c. c || has f x) e) ∙ t))
-]
-
-map_has : (m : ℕ → ℕ) (f : List ℕ) (z : ℕ) → has (map m f) z ≡ true → (x : ℕ) × (has f x ≡ true) × (z ≡ m x)
-map_has m [] z t = clash true refl (sym t)
-map_has m (y ∷ f) z t = elim (two (nat_eq (m y) z)) [
-  | inl e ↦ (y, or_left (nat_eq y y) (has f y) (nat_eq_same y), sym (nat_eq_is (m y) z e))
-  | inr e ↦ let p : (x : ℕ) × (has f x ≡ true) × (z ≡ m x) = map_has m f z (sym (ap (λ c. c || has (map m f) z) e) ∙ t) in (p.0, or_right (nat_eq y p.0) (has f p.0) p.1, p.2)
-]
+use Rattle.flip_laws.proofs.SignsKept.{without_none, odd_more, lt_turn}
+use Rattle.std.proofs.lemmas.Bool.{false_from_ne_true, lt-ltb}
+use Rattle.complex_core.proofs.Members.{without_has, without_other, in_without, has-rising, has-map, map_has}
+use Rattle.orient_test.proofs.Chains.{cancel}
 
 pub in_image : (m : ℕ → ℕ) (f : List ℕ) (x : ℕ) → has f x ≡ true → has (image m f) (m x) ≡ true
 in_image m f x t = has-rising (map m f) (m x) ∙ has-map m f x t
@@ -94,9 +80,6 @@ passing-without p (z ∷ zs) x s t =
 odd_plus : (c : Bool) (n : ℕ) → odd (cond c 1 0 + n) ≡ times c (odd n)
 odd_plus true n = let e : 1 + n ≡ suc n = omega arith in ap odd e
 odd_plus false n = let e : 0 + n ≡ n = omega arith in ap odd e
-
-lt_less : (x y : ℕ) → x < y → nat_lt x y ≡ true
-lt_less x y h = grind (arith, nat_tests)
 
 lt_not : (x y : ℕ) → y < x → nat_lt x y ≡ false
 lt_not x y h = grind (arith, nat_tests)
@@ -206,7 +189,7 @@ add_common x y r e = ap (λ c. times c r) e ∙ table y r
 pub distinct_map : (g : List ℕ → List ℕ) (xs : List (List ℕ)) → ((s t : List ℕ) → listed xs s ≡ true → listed xs t ≡ true → g s ≡ g t → s ≡ t) → Distinct xs → Distinct (map g xs)
 distinct_map g [] h d = tt
 distinct_map g (x ∷ xs) h d = (
-  not_true (listed (map g xs) (g x)) (λ t.
+  false_from_ne_true (listed (map g xs) (g x)) (λ t.
       let q : (r : List ℕ) × (listed xs r ≡ true) × (g x ≡ g r) = map_back g xs (g x) t in
       let e : x ≡ q.0 = h x q.0 (or_left (pointwise nat_eq x x) (listed xs x) (same_set_itself x)) (or_right (pointwise nat_eq x q.0) (listed xs q.0) q.1) q.2 in
       clash {P = ⊥} (listed xs x) (ap (listed xs) e ∙ q.1) d.0),
@@ -304,7 +287,7 @@ module _ (m : ℕ → ℕ) (u : List ℕ) (one : (x y : ℕ) → has u x ≡ tru
           let ux : has u x ≡ true = holds_has u zs x us p in
           let n : m x ≢ m z = λ q. clash {P = ⊥} (nat_eq z x) (ap (nat_eq z) (one x z ux uz q) ∙ nat_eq_same z) e in
           let step : without (z ∷ zs) x ≡ z ∷ without zs x = ap (λ c. cond (not c) (z ∷ without zs x) (without zs x)) e in
-          let less : nat_lt z x ≡ true = lt_less z x (above x p) in
+          let less : nat_lt z x ≡ true = lt-ltb z x (above x p) in
           let sz : IsStrictlySortedBy nat_cmp zs = above_tail nat_cmp z zs s in
           let left : odd (before (z ∷ zs) x) ≡ times (not (nat_lt (m x) (m z))) (times (odd (place zs x)) (times (turns zs) (turns (without zs x)))) =
           ap odd (passing-first (λ y. nat_lt (m y) (m x)) z zs) ∙ odd_plus (nat_lt (m z) (m x)) (before zs x) ∙ (λ i. times (lt_turn (m x) (m z) n i) (again i)) in
@@ -395,7 +378,7 @@ module _ (m : ℕ → ℕ) (u : List ℕ) (one : (x y : ℕ) → has u x ≡ tru
           let q : g ≡ f = h g (or_left (pointwise nat_eq g g) (listed rest g) (same_set_itself g)) (same_sets_is (image m g) (image m f) e) in
           ap (λ c. cond c (times (s g) (turns g)) (carried s rest (image m f))) e ∙ ap (λ v. times (s v) (turns v)) q
       | inr e ↦
-          let ng : pointwise nat_eq g f ≡ false = not_true (pointwise nat_eq g f) (λ q. clash {P = ⊥} (pointwise nat_eq (image m g) (image m f)) (ap (λ v. pointwise nat_eq (image m v) (image m f)) (same_sets_is g f q) ∙ same_set_itself (image m f)) e) in
+          let ng : pointwise nat_eq g f ≡ false = false_from_ne_true (pointwise nat_eq g f) (λ q. clash {P = ⊥} (pointwise nat_eq (image m g) (image m f)) (ap (λ v. pointwise nat_eq (image m v) (image m f)) (same_sets_is g f q) ∙ same_set_itself (image m f)) e) in
           ap (λ c. cond c (times (s g) (turns g)) (carried s rest (image m f))) e ∙ carried_is s rest f (sym (ap (λ c. c || listed rest f) ng) ∙ t) (λ v q. h v (or_right (pointwise nat_eq g v) (listed rest v) q))
     ]
 

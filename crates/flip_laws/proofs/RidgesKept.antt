@@ -1,5 +1,5 @@
 -- What a legal flip keeps of ridges.
-use Rattle.std.proofs.Common.{◌≡◌, ◌≢◌, ℕ, ◌+◌, Bool, true, false, nat_eq, ◌||◌, ◌&&◌, List, [], ◌∷◌, length, map, sym, ◌∙◌, ap, refl, arith, ◌⊎◌, inl, inr, subst}
+use Rattle.std.proofs.Common.{◌≡◌, ◌≢◌, ℕ, ◌+◌, true, false, nat_eq, ◌||◌, ◌&&◌, List, [], ◌∷◌, length, map, sym, ◌∙◌, ap, refl, arith, ◌⊎◌, inl, inr, subst}
 use Rattle.std.specs.List.{flat_map, list_any}
 use Rattle.std.specs.List.Sorted.{IsStrictlySortedBy}
 use Rattle.std.specs.Ordering.{nat_cmp}
@@ -11,13 +11,16 @@ use Rattle.complex_core.specs.Labels.{has, holds, without, face_cmp}
 use Rattle.complex_core.specs.Spaces.{over}
 use Rattle.complex_core.specs.Rising.{rising}
 use Rattle.complex_core.proofs.Sets.{sorted_rising, length-put_new}
-use Rattle.complex_core.proofs.Laws.{both_ways, holds_has, or_left, or_right, listed, same_sets_is, same_set_itself, listed-append, listed-filter, listed-rising, listed-among, same_lists, some_listed, some_has, found, sorted_without, nat_eq_is, nat_eq_same, length-without}
+use Rattle.complex_core.proofs.Laws.{both_ways, holds_has, or_left, or_right, listed, same_sets_is, same_set_itself, listed-filter, listed-rising, listed-among, same_lists, some_listed, some_has, found, sorted_without, nat_eq_is, nat_eq_same, length-without}
 use Rattle.pseudo_test.specs.Ridges.{IsRidge, count, Closed, Thin}
 use Rattle.flip_laws.specs.Keeping.{ridges, boundary}
-use Rattle.face_counts.proofs.Parts.{listed-flat_map, found_set}
 use Rattle.flip_laws.proofs.Exchange.{Half, Exchange, turned}
-use Rattle.pseudo_test.proofs.Subsets.{two, clash, not_true, in_without, without_has, without_gone, without_other, it_is, without_swap, holds_without, holds_through, lacking}
-use Rattle.flip_laws.proofs.Counting.{in_a, in_b, apart, count_kept}
+use Rattle.pseudo_test.proofs.Subsets.{it_is, without_swap, holds_without, holds_through, lacking}
+use Rattle.flip_laws.proofs.Counting.{in_a, in_b, apart, count_kept, or_none}
+use Rattle.std.proofs.lemmas.Bool.{false_from_ne_true}
+use Rattle.complex_core.proofs.SubsetLists.{two, clash}
+use Rattle.complex_core.proofs.Members.{without_has, without_gone, without_other, in_without}
+use Rattle.complex_core.proofs.SetLists.{listed-flat_map, found_set}
 
 -- a ridge has one label less than a facet
 pub record Sized (w r : List ℕ) : Type 0 where
@@ -35,7 +38,7 @@ ridge_size fs a b w r h g =
 -- a ridge after the flip that doesn't contain B was one before
 pub ridge_was : (fs gs : List (List ℕ)) (a b w r : List ℕ) → Exchange fs gs a b w → IsRidge gs r → holds r b ≡ false → IsRidge fs r × (holds r a ≡ false)
 ridge_was fs gs a b w r e g rb =
-    (was, not_true (holds r a) (λ t. clash {P = ⊥} (holds g.facet a) (holds_through g.facet r a in_facet t) (e.new.free g.facet g.there)))
+    (was, false_from_ne_true (holds r a) (λ t. clash {P = ⊥} (holds g.facet a) (holds_through g.facet r a in_facet t) (e.new.free g.facet g.there)))
   where
     in_facet : holds g.facet r ≡ true
     in_facet = ap (holds g.facet) g.is ∙ holds_without g.facet g.label
@@ -60,10 +63,6 @@ ridge_was fs gs a b w r e g rb =
       | inr fb ↦ record { facet = g.facet; label = g.label; there = e.stays g.facet (e.new.free g.facet g.there) fb ∙ g.there; used = g.used; is = g.is }
     ]
 
-or_none : (c : Bool) → (c || false) ≡ true → c ≡ true
-or_none true h = refl
-or_none false h = h
-
 two_listed : (p q f : List ℕ) → (pointwise nat_eq p f || (pointwise nat_eq q f || false)) ≡ true → (p ≡ f) ⊎ (q ≡ f)
 two_listed p q f t = elim (two (pointwise nat_eq p f)) [
   | inl e ↦ inl (same_sets_is p f e)
@@ -72,7 +71,7 @@ two_listed p q f t = elim (two (pointwise nat_eq p f)) [
 
 two_long : (p q : List ℕ) → (p ≢ q) → length (rising face_cmp (p ∷ q ∷ [])) ≡ 2
 two_long p q n =
-    let f : pointwise nat_eq q p ≡ false = not_true (pointwise nat_eq q p) (λ t. n (sym (same_sets_is q p t))) in
+    let f : pointwise nat_eq q p ≡ false = false_from_ne_true (pointwise nat_eq q p) (λ t. n (sym (same_sets_is q p t))) in
     length-put_new face_cmp p (q ∷ []) (listed-among (q ∷ []) p ∙ ap (λ c. c || false) f)
 
 -- a ridge that contains A lies in two facets
@@ -91,7 +90,7 @@ ridge_two fs a b w r h g ra =
     ub : (y : ℕ) → g.facet ≡ without w y → has b g.label ≡ true
     ub y is =
         let wu : has w g.label ≡ true = without_has w y g.label (ap (λ q. has q g.label) (sym is) ∙ g.used) in
-        let au : has a g.label ≡ false = not_true (has a g.label) (λ t. clash {P = ⊥} (has r g.label) (holds_has r a g.label ra t) no_u) in
+        let au : has a g.label ≡ false = false_from_ne_true (has a g.label) (λ t. clash {P = ⊥} (has r g.label) (holds_has r a g.label ra t) no_u) in
         sym (ap (λ c. c || has b g.label) au) ∙ sym (h.both g.label) ∙ wu
 
     pair : (y : ℕ) → has b y ≡ true → g.facet ≡ without w y → count fs r ≡ 2
@@ -117,7 +116,7 @@ ridge_two fs a b w r h g ra =
             let p : listed fs f ≡ true = first_so (listed fs f) (holds f r) t in
             let q : holds f r ≡ true = second_so (listed fs f) (holds f r) t in
             let v : (v : ℕ) × (has b v ≡ true) × (f ≡ without w v) = h.outs f p (holds_through f r a q ra) in
-            let vr : has r v.0 ≡ false = not_true (has r v.0) (λ s. clash {P = ⊥} (has (without w v.0) v.0) (ap (λ m. has m v.0) (sym v.2) ∙ holds_has f r v.0 q s) (without_gone w v.0)) in
+            let vr : has r v.0 ≡ false = false_from_ne_true (has r v.0) (λ s. clash {P = ⊥} (has (without w v.0) v.0) (ap (λ m. has m v.0) (sym v.2) ∙ holds_has f r v.0 q s) (without_gone w v.0)) in
             elim (two (nat_eq v.0 y)) [
               | inl e ↦ or_left (pointwise nat_eq (without w y) f) (pointwise nat_eq (without w g.label) f || false) (ap (λ m. pointwise nat_eq m f) (ap (without w) (sym (nat_eq_is v.0 y e)) ∙ sym v.2) ∙ same_set_itself f)
               | inr e ↦

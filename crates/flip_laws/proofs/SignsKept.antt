@@ -12,9 +12,13 @@ use Rattle.pseudo_test.specs.Ridges.{count}
 use Rattle.orient_test.specs.Signs.{odd}
 use Rattle.orient_test.specs.Signs.{times, place, induced, IsOrientation, Orientable}
 use Rattle.flip_laws.proofs.Exchange.{Exchange}
-use Rattle.pseudo_test.proofs.Subsets.{two, clash, not_true, in_without, without_has, without_gone, it_is, without_swap, holds_without, holds_through, holds_less, lacking}
+use Rattle.pseudo_test.proofs.Subsets.{it_is, without_swap, holds_without, holds_through, holds_less, lacking}
 use Rattle.flip_laws.proofs.Counting.{in_a, in_b, apart, holds_a, count_kept}
 use Rattle.flip_laws.proofs.RidgesKept.{Sized, ridge_size, ridge_two}
+use Rattle.std.proofs.lemmas.Bool.{false_from_ne_true}
+use Rattle.complex_core.proofs.SubsetLists.{two, clash}
+use Rattle.complex_core.proofs.Members.{without_has, without_gone, in_without}
+use Rattle.orient_test.proofs.Chains.{cancel}
 
 -- ---- the place of a label without another
 
@@ -90,7 +94,7 @@ lost_is : (v f : List ℕ) (y : ℕ) → has v y ≡ true → has f y ≡ false 
 lost_is [] f y t g h = clash true refl (sym t)
 lost_is (z ∷ zs) f y t g h = elim (two (has f z)) [
   | inl e ↦
-      let ny : nat_eq z y ≡ false = not_true (nat_eq z y) (λ q. clash {P = ⊥} (has f y) (ap (has f) (sym (nat_eq_is z y q)) ∙ e) g) in
+      let ny : nat_eq z y ≡ false = false_from_ne_true (nat_eq z y) (λ q. clash {P = ⊥} (has f y) (ap (has f) (sym (nat_eq_is z y q)) ∙ e) g) in
       ap (λ c. cond c (lost zs f) z) e ∙ lost_is zs f y (sym (ap (λ c. c || has zs y) ny) ∙ t) g (λ v p q. h v (or_right (nat_eq z v) (has zs v) p) q)
   | inr e ↦ ap (λ c. cond c (lost zs f) z) e ∙ h z (or_left (nat_eq z z) (has zs z) (nat_eq_same z)) e
 ]
@@ -99,15 +103,6 @@ pub lost_without : (w : List ℕ) (y : ℕ) → has w y ≡ true → lost w (wit
 lost_without w y t = lost_is w (without w y) y t (without_gone w y) (λ z p q. it_is w y z p q)
 
 -- ---- the sign before a flip
-
-pub cancel : (s u z : Bool) → times s u ≡ z → s ≡ times z u
-cancel s u z e = undo s u ∙ ap (λ c. times c u) e
-  where
-    undo : (s u : Bool) → s ≡ times (times s u) u
-    undo true true = refl
-    undo true false = refl
-    undo false true = refl
-    undo false false = refl
 
 tied_table : (t q u v : Bool) → times (times (not (times t v)) u) (times (not (times q v)) u) ≡ times t q
 tied_table true true true true = refl
@@ -225,7 +220,7 @@ module _ (fs gs : List (List ℕ)) (a b w : List ℕ) (e : Exchange fs gs a b w)
   sign_same f q = ap (λ v. cond v (not (times c0 (canon w (lost w f)))) (s f)) q
 
   not_part : (f r v : List ℕ) → holds f r ≡ true → holds f v ≡ false → holds r v ≡ false
-  not_part f r v p q = not_true (holds r v) (λ t. clash {P = ⊥} (holds f v) (holds_through f r v p t) q)
+  not_part f r v p q = false_from_ne_true (holds r v) (λ t. clash {P = ⊥} (holds f v) (holds_through f r v p t) q)
 
   -- a ridge of a facet that stays lies in two facets before the flip too
   two_before : (f : List ℕ) (x : ℕ) → listed gs f ≡ true → holds f b ≡ false → has f x ≡ true → count gs (without f x) ≡ 2 → count fs (without f x) ≡ 2
@@ -275,8 +270,8 @@ module _ (fs gs : List (List ℕ)) (a b w : List ℕ) (e : Exchange fs gs a b w)
           let wq : has w q ≡ true = in_a fs a b w e.old q qa in
           let qf : has f q ≡ true = ap (λ m. has m q) fp ∙ in_without w p q wq (λ m. pq (sym m)) in
           let pg : has g p ≡ true = ap (λ m. has m p) gq ∙ in_without w q p wp pq in
-          let gone_q : has (without f x) q ≡ false = not_true (has (without f x) q) (λ m. clash {P = ⊥} (has g q) (without_has g y q (ap (λ v. has v q) (sym r) ∙ m)) (ap (λ v. has v q) gq ∙ without_gone w q)) in
-          let gone_p : has (without g y) p ≡ false = not_true (has (without g y) p) (λ m. clash {P = ⊥} (has f p) (without_has f x p (ap (λ v. has v p) r ∙ m)) (ap (λ v. has v p) fp ∙ without_gone w p)) in
+          let gone_q : has (without f x) q ≡ false = false_from_ne_true (has (without f x) q) (λ m. clash {P = ⊥} (has g q) (without_has g y q (ap (λ v. has v q) (sym r) ∙ m)) (ap (λ v. has v q) gq ∙ without_gone w q)) in
+          let gone_p : has (without g y) p ≡ false = false_from_ne_true (has (without g y) p) (λ m. clash {P = ⊥} (has f p) (without_has f x p (ap (λ v. has v p) r ∙ m)) (ap (λ v. has v p) fp ∙ without_gone w p)) in
           let qx : q ≡ x = it_is f x q qf gone_q in
           let py : p ≡ y = it_is g y p pg gone_p in
           let left : induced new_signs f x ≡ times (not (times c0 (canon w p))) (odd (place (without w p) q)) = ap (λ v. induced new_signs f v) (sym qx) ∙ ap (λ m. induced new_signs m q) fp ∙ ap (λ v. times v (odd (place (without w p) q))) (sign_new p pa) in

@@ -13,11 +13,12 @@ use Rattle.complex_core.proofs.Sets.{sorted_rising, sorted_none}
 use Rattle.complex_core.proofs.Laws.{both_ways, holds_has, holds_each, or_left, or_right, listed, same_sets_is, same_set_itself, listed-rising, same_labels, nat_eq_same}
 use Rattle.face_counts.specs.Faces.{subsets, parts, is_some, faces}
 use Rattle.face_counts.specs.Eulers.{odd, total, sign, euler, power}
-use Rattle.pseudo_test.proofs.Subsets.{two, clash, not_true}
 use Rattle.flip_laws.proofs.Totals.{total_pairs, total_pick, total-rising}
 use Rattle.face_counts.proofs.Parts.{Sets, part_is, part_from, listed-faces, face_is, faces_rise}
 use Rattle.flip_laws.proofs.EulerKept.{Full, signs_cancel, part_old, part_free}
 use Rattle.flip_laws.proofs.Simplices.{simplex_boundary, half_of}
+use Rattle.std.proofs.lemmas.Bool.{false_from_ne_true}
+use Rattle.complex_core.proofs.SubsetLists.{two, clash}
 
 module _ (w : List ℕ) (s : IsStrictlySortedBy nat_cmp w) where
   abbrev all : List (List ℕ)
@@ -79,7 +80,7 @@ module _ (w : List ℕ) (s : IsStrictlySortedBy nat_cmp w) where
 
       ends_are : (r : List ℕ) → holds r w ≡ false → (pointwise nat_eq [] r || (pointwise nat_eq w r || false)) ≡ not (is_some r)
       ends_are [] p = refl
-      ends_are (x ∷ r) p = ap (λ c. c || false) (not_true (pointwise nat_eq w (x ∷ r)) (λ m. clash {P = ⊥} (holds (x ∷ r) w) (ap (λ v. holds v w) (sym (same_sets_is w (x ∷ r) m)) ∙ holds_each w w (λ z t. t)) p))
+      ends_are (x ∷ r) p = ap (λ c. c || false) (false_from_ne_true (pointwise nat_eq w (x ∷ r)) (λ m. clash {P = ⊥} (holds (x ∷ r) w) (ap (λ v. holds v w) (sym (same_sets_is w (x ∷ r) m)) ∙ holds_each w w (λ z t. t)) p))
 
   zeros : (xs : List (List ℕ)) → total (λ r. pos 0) xs ≡ pos 0
   zeros [] = refl

@@ -11,11 +11,14 @@ use Rattle.pseudo_test.specs.Ridges.{Closed}
 use Rattle.pseudo_test.specs.Chains.{Strong}
 use Rattle.orient_test.specs.Signs.{odd, times, place, induced, IsOrientation}
 use Rattle.flip_laws.proofs.Exchange.{Half}
-use Rattle.pseudo_test.proofs.Subsets.{two, clash, not_true, in_without, without_has, without_gone, it_is}
+use Rattle.pseudo_test.proofs.Subsets.{it_is}
 use Rattle.flip_laws.proofs.RidgesKept.{ridge_two, listed-map}
 use Rattle.pseudo_test.proofs.Spreading.{here, join}
 use Rattle.flip_laws.proofs.ChainsKept.{over_b}
 use Rattle.flip_laws.proofs.SignsKept.{canon, canon_opposite, lost, lost_without}
+use Rattle.std.proofs.lemmas.Bool.{false_from_ne_true}
+use Rattle.complex_core.proofs.SubsetLists.{two, clash}
+use Rattle.complex_core.proofs.Members.{without_has, without_gone, in_without}
 
 side_of : (w : List ℕ) (f : List ℕ) → listed (rising face_cmp (map (λ x. without w x) w)) f ≡ true → (x : ℕ) × (has w x ≡ true) × (f ≡ without w x)
 side_of w f t =
@@ -23,7 +26,7 @@ side_of w f t =
     (r.0, r.1, sym (same_sets_is (without w r.0) f r.2))
 
 lacks : (w : List ℕ) (x : ℕ) → has w x ≡ true → holds (without w x) w ≡ false
-lacks w x t = not_true (holds (without w x) w) (λ p. clash {P = ⊥} (has (without w x) x) (holds_has (without w x) w x p t) (without_gone w x))
+lacks w x t = false_from_ne_true (holds (without w x) w) (λ p. clash {P = ⊥} (has (without w x) x) (holds_has (without w x) w x p t) (without_gone w x))
 
 -- the boundary is what a flip (∅, w) would take out
 abbrev pub simplex_boundary : List ℕ → List (List ℕ)
@@ -69,8 +72,8 @@ module _ (w : List ℕ) (s : IsStrictlySortedBy nat_cmp w) where
           let pq : p ≢ q = λ m. n (fp ∙ ap (without w) m ∙ sym gq) in
           let qf : has f q ≡ true = ap (λ m. has m q) fp ∙ in_without w p q wq (λ m. pq (sym m)) in
           let pg : has g p ≡ true = ap (λ m. has m p) gq ∙ in_without w q p wp pq in
-          let gone_q : has (without f x) q ≡ false = not_true (has (without f x) q) (λ m. clash {P = ⊥} (has g q) (without_has g y q (ap (λ v. has v q) (sym r) ∙ m)) (ap (λ v. has v q) gq ∙ without_gone w q)) in
-          let gone_p : has (without g y) p ≡ false = not_true (has (without g y) p) (λ m. clash {P = ⊥} (has f p) (without_has f x p (ap (λ v. has v p) r ∙ m)) (ap (λ v. has v p) fp ∙ without_gone w p)) in
+          let gone_q : has (without f x) q ≡ false = false_from_ne_true (has (without f x) q) (λ m. clash {P = ⊥} (has g q) (without_has g y q (ap (λ v. has v q) (sym r) ∙ m)) (ap (λ v. has v q) gq ∙ without_gone w q)) in
+          let gone_p : has (without g y) p ≡ false = false_from_ne_true (has (without g y) p) (λ m. clash {P = ⊥} (has f p) (without_has f x p (ap (λ v. has v p) r ∙ m)) (ap (λ v. has v p) fp ∙ without_gone w p)) in
           let qx : q ≡ x = it_is f x q qf gone_q in
           let py : p ≡ y = it_is g y p pg gone_p in
           let left : induced signs_of f x ≡ times (canon w p) (odd (place (without w p) q)) = ap (λ v. induced signs_of f v) (sym qx) ∙ ap (λ m. induced signs_of m q) fp ∙ ap (λ v. times (canon w v) (odd (place (without w p) q))) (lost_without w p wp) in

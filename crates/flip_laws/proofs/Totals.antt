@@ -15,7 +15,7 @@ use Rattle.complex_core.specs.Rising.{rising, put}
 use Rattle.complex_core.proofs.Sets.{among, above_head, above_tail, not_among, sorted_rising}
 use Rattle.complex_core.proofs.Laws.{both_ways, or_left, or_right, listed, same_set_itself, listed-filter, listed-rising, listed-among, same_lists}
 use Rattle.face_counts.specs.Eulers.{total}
-use Rattle.pseudo_test.proofs.Subsets.{clash}
+use Rattle.complex_core.proofs.SubsetLists.{clash}
 
 -- sums of equal values, two and two
 pub total_pairs : (p q r s : List ℕ → ℤ) (xs : List (List ℕ)) → ((f : List ℕ) → listed xs f ≡ true → p f +ℤ q f ≡ r f +ℤ s f) → total p xs +ℤ total q xs ≡ total r xs +ℤ total s xs

@@ -21,14 +21,12 @@ use Rattle.flip_rules.specs.declared.flip.Flip.{Flip}
 use Rattle.flip_rules.specs.Flips.{OfFaces}
 use Rattle.flip_names.specs.Names.{named_flip, named_flips, takes_flip, takes_flips}
 use Rattle.flip_names.specs.Laws.{Renames, map_back, RenamingIsUndone}
-use Rattle.flip_names.proofs.Images.{Taken, passes_has, in_image, image_has, image_rises, taken_set, listed_image, image_listed}
+use Rattle.flip_names.proofs.Images.{Taken, in_image, image_has, image_rises, taken_set, listed_image, image_listed}
 use Rattle.flip_names.proofs.Flips.{facet_rises, takes_first, takes_second}
 use Rattle.flip_names.proofs.Faces.{sizes_are_kept, renamed_is_complex}
+use Rattle.complex_core.proofs.Members.{passes_has}
 
 -- ---- labels there and back
-
-other_key : (ps : List (ℕ × ℕ)) (x y : ℕ) → takes ps x ≡ false → takes ps y ≡ true → nat_eq x y ≡ false
-other_key ps x y f t = elim (two (nat_eq x y)) [ inl e ↦ clash (takes ps x) (ap (takes ps) (nat_eq_is x y e) ∙ t) f | inr e ↦ e ]
 
 -- a pair in its place, among pairs with other first numbers
 at-put : (p : ℕ × ℕ) (ps : List (ℕ × ℕ)) (x : ℕ) → takes ps p.0 ≡ false → at (put pair_cmp p ps) x ≡ at (p ∷ ps) x
@@ -149,7 +147,7 @@ flips_taken_back m (f ∷ fs) t =
     let h : takes_flip m f ≡ true = first_so (takes_flip m f) (takes_flips m fs) t in
     both_true (both_true (taken_back m f.a (takes_first m f h)) (taken_back m f.b (takes_second m f h))) (flips_taken_back m fs (second_so (takes_flip m f) (takes_flips m fs) t))
 
-named_are_faces : (m : List (ℕ × ℕ)) (fs : List Flip) → IsMap m → AllByRecursion OfFaces fs → takes_flips m fs ≡ true → AllByRecursion OfFaces (named_flips m fs)
+pub named_are_faces : (m : List (ℕ × ℕ)) (fs : List Flip) → IsMap m → AllByRecursion OfFaces fs → takes_flips m fs ≡ true → AllByRecursion OfFaces (named_flips m fs)
 named_are_faces m [] h faces t = tt
 named_are_faces m (f ∷ fs) h faces t = (
   (sizes_are_kept m f h faces.0 (first_so (takes_flip m f) (takes_flips m fs) t)).faces,

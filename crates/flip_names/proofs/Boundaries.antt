@@ -13,9 +13,10 @@ use Rattle.complex_core.proofs.SubsetLists.{two, clash}
 use Rattle.flip_rules.specs.Flips.{sides}
 use Rattle.flip_rules.specs.Boundaries.{IsBoundaryOf, IsBoundary}
 use Rattle.flip_names.specs.Laws.{Renames, map_back, BoundaryIsKept}
-use Rattle.flip_names.proofs.Images.{Taken, passes_has, in_without, image_rises, image-rising, length-image, listed_side, sides-image, taken_set}
+use Rattle.flip_names.proofs.Images.{Taken, image_rises, image-rising, length-image, listed_side, sides-image, taken_set}
 use Rattle.flip_names.proofs.Back.{renamed_back, renames_back}
 use Rattle.flip_names.proofs.Faces.{image_rising}
+use Rattle.complex_core.proofs.Members.{in_without, passes_has}
 
 -- of two labels or more there is another one
 pub other_label : (w : List ℕ) (x : ℕ) → IsStrictlySortedBy nat_cmp w → 2 ≤ length w → has w x ≡ true → (y : ℕ) × (has w y ≡ true) × (x ≢ y)

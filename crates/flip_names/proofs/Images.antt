@@ -1,5 +1,5 @@
 -- What sets of labels become under a map that takes no two labels to the same one.
-use Rattle.std.proofs.Common.{◌≡◌, ◌≢◌, ℕ, Bool, true, false, not, nat_eq, cond, ◌||◌, ◌&&◌, List, [], ◌∷◌, length, map, sym, ◌∙◌, ap, refl, arith, inl, inr}
+use Rattle.std.proofs.Common.{◌≡◌, ℕ, Bool, true, false, not, nat_eq, ◌||◌, ◌&&◌, List, [], ◌∷◌, length, map, sym, ◌∙◌, ap, refl, arith, inl, inr}
 use Rattle.std.specs.List.{list_any, list_all, filter}
 use Rattle.std.specs.List.Sorted.{IsStrictlySortedBy}
 use Rattle.std.specs.Ordering.{nat_cmp}
@@ -10,36 +10,23 @@ use Rattle.std.proofs.lemmas.Cmp.{nat_cmp_total}
 use Rattle.complex_core.specs.Labels.{has, holds, without, union, face_cmp}
 use Rattle.complex_core.specs.Rising.{rising}
 use Rattle.complex_core.specs.Spaces.{over, beside, is_held}
-use Rattle.complex_core.specs.Maps.{Differ, takes, reaches, at, face_image, image, takes_all}
+use Rattle.complex_core.specs.Maps.{Differ, takes, at, face_image, image, takes_all}
 use Rattle.complex_core.proofs.Sets.{above_head, above_tail, any-rising, not_among, sorted_rising, length-put_new}
 use Rattle.complex_core.proofs.Faces.{among-has, equal_cmp}
-use Rattle.complex_core.proofs.Images.{reaches_at}
-use Rattle.complex_core.proofs.Laws.{both_ways, each_has, has-union, has-without, holds_has, holds_each, listed, listed-filter, listed-rising, nat_eq_is, nat_eq_same, or_left, or_right, passes_listed, same_labels, same_lists, same_set_itself, some_has, sorted_union, sorted_without}
+use Rattle.complex_core.proofs.Images.{injective}
+use Rattle.complex_core.proofs.Laws.{both_ways, each_has, has-union, holds_has, holds_each, listed, listed-filter, listed-rising, nat_eq_same, or_left, or_right, passes_listed, same_labels, same_lists, same_set_itself, some_has, sorted_union, sorted_without}
 use Rattle.complex_core.proofs.Sorting.{exact_faces}
-use Rattle.complex_core.proofs.SubsetLists.{two, clash, map_from, map_back}
+use Rattle.complex_core.proofs.SubsetLists.{two, map_from, map_back}
 use Rattle.flip_rules.specs.Flips.{sides}
 use Rattle.flip_rules.proofs.Links.{side, side_of, listed-sides}
+use Rattle.complex_core.proofs.Renaming.{list_any-map}
+use Rattle.complex_core.proofs.Members.{without_has, without_other, in_without, has-rising, has-map, map_has, passes_has}
 
 -- each label of a set has a pair
 abbrev pub Taken : List (ℕ × ℕ) → List ℕ → Type 0
 Taken m f = list_all (takes m) f ≡ true
 
 -- ---- tests of lists
-
-pub not_true : (c : Bool) → (c ≡ true → ⊥) → c ≡ false
-not_true true h = absurd (h refl)
-not_true false h = refl
-
-pub passes_has : (p : ℕ → Bool) (f : List ℕ) (x : ℕ) → list_all p f ≡ true → has f x ≡ true → p x ≡ true
-passes_has p [] x h t = clash true refl (sym t)
-passes_has p (y ∷ f) x h t = elim (two (nat_eq y x)) [
-  | inl e ↦ ap p (sym (nat_eq_is y x e)) ∙ first_so (p y) (list_all p f) h
-  | inr e ↦ passes_has p f x (second_so (p y) (list_all p f) h) (sym (ap (λ c. c || has f x) e) ∙ t)
-]
-
-any-map : {K L : Type 0} (p : L → Bool) (h : K → L) (xs : List K) → list_any p (map h xs) ≡ list_any (λ x. p (h x)) xs
-any-map p h [] = refl
-any-map p h (x ∷ xs) = ap (λ b. p (h x) || b) (any-map p h xs)
 
 any_label : (p q : ℕ → Bool) (f : List ℕ) → ((x : ℕ) → has f x ≡ true → p x ≡ q x) → list_any p f ≡ list_any q f
 any_label p q [] h = refl
@@ -50,23 +37,6 @@ any_set p q [] h = refl
 any_set p q (f ∷ fs) h = λ i. h f (or_left (pointwise nat_eq f f) (listed fs f) (same_set_itself f)) i || any_set p q fs (λ g t. h g (or_right (pointwise nat_eq f g) (listed fs g) t)) i
 
 -- ---- the image of a set, label by label
-
-has-rising : (ks : List ℕ) (z : ℕ) → has (rising nat_cmp ks) z ≡ has ks z
-has-rising ks z = any-rising nat_cmp equal_cmp (λ y. nat_eq y z) ks
-
-has-map : (h : ℕ → ℕ) (f : List ℕ) (x : ℕ) → has f x ≡ true → has (map h f) (h x) ≡ true
-has-map h [] x t = t
-has-map h (y ∷ f) x t = elim (two (nat_eq y x)) [
-  | inl e ↦ or_left (nat_eq (h y) (h x)) (has (map h f) (h x)) (ap (λ v. nat_eq (h v) (h x)) (nat_eq_is y x e) ∙ nat_eq_same (h x))
-  | inr e ↦ or_right (nat_eq (h y) (h x)) (has (map h f) (h x)) (has-map h f x (sym (ap (λ c. c || has f x) e) ∙ t))
-]
-
-map_has : (h : ℕ → ℕ) (f : List ℕ) (z : ℕ) → has (map h f) z ≡ true → (x : ℕ) × (has f x ≡ true) × (z ≡ h x)
-map_has h [] z t = clash true refl (sym t)
-map_has h (y ∷ f) z t = elim (two (nat_eq (h y) z)) [
-  | inl e ↦ (y, or_left (nat_eq y y) (has f y) (nat_eq_same y), sym (nat_eq_is (h y) z e))
-  | inr e ↦ let p : (x : ℕ) × (has f x ≡ true) × (z ≡ h x) = map_has h f z (sym (ap (λ c. c || has (map h f) z) e) ∙ t) in (p.0, or_right (nat_eq y p.0) (has f p.0) p.1, p.2)
-]
 
 pub in_image : (m : List (ℕ × ℕ)) (f : List ℕ) (x : ℕ) → has f x ≡ true → has (face_image m f) (at m x) ≡ true
 in_image m f x t = has-rising (map (at m) f) (at m x) ∙ has-map (at m) f x t
@@ -80,22 +50,6 @@ image_rises m f = sorted_rising nat_cmp_total (map (at m) f)
 -- a map takes what is in a set whose labels it takes
 pub taken_part : (m : List (ℕ × ℕ)) (f g : List ℕ) → Taken m f → ((x : ℕ) → has g x ≡ true → has f x ≡ true) → Taken m g
 taken_part m f g t h = each_has (takes m) g (λ x gx. passes_has (takes m) f x t (h x gx))
-
-without_has : (w : List ℕ) (x z : ℕ) → has (without w x) z ≡ true → has w z ≡ true
-without_has w x z t = first_so (has w z) (not (nat_eq z x)) (sym (has-without w x z) ∙ t)
-
-without_gone : (w : List ℕ) (x : ℕ) → has (without w x) x ≡ false
-without_gone w x = has-without w x x ∙ ap (λ c. has w x && not c) (nat_eq_same x) ∙ none (has w x)
-  where
-    none : (c : Bool) → (c && not true) ≡ false
-    none true = refl
-    none false = refl
-
-without_other : (w : List ℕ) (x z : ℕ) → has (without w x) z ≡ true → (z ≢ x)
-without_other w x z t e = clash {P = ⊥} (has (without w x) z) t (ap (has (without w x)) e ∙ without_gone w x)
-
-pub in_without : (w : List ℕ) (x z : ℕ) → has w z ≡ true → (z ≢ x) → has (without w x) z ≡ true
-in_without w x z t n = has-without w x z ∙ (λ i. t i && not (not_true (nat_eq z x) (λ e. n (nat_eq_is z x e)) i))
 
 pub taken_without : (m : List (ℕ × ℕ)) (f : List ℕ) (x : ℕ) → Taken m f → Taken m (without f x)
 taken_without m f x t = taken_part m f (without f x) t (without_has f x)
@@ -134,33 +88,11 @@ image-union m f g = same_labels (union (face_image m f) (face_image m g)) (face_
 
 -- ---- no two labels become the same one
 
-one_label : (m : List (ℕ × ℕ)) (x y : ℕ) → Differ m → takes m x ≡ true → takes m y ≡ true → at m x ≡ at m y → x ≡ y
-one_label [] x y d t u e = clash true refl (sym t)
-one_label (p ∷ ps) x y d t u e = elim (two (nat_eq p.0 x)) [
-  | inl a ↦ elim (two (nat_eq p.0 y)) [
-    | inl b ↦ sym (nat_eq_is p.0 x a) ∙ nat_eq_is p.0 y b
-    | inr b ↦ clash (reaches ps p.1) (ap (reaches ps) (sym (here x a) ∙ e ∙ there y b) ∙ reaches_at ps y (rest y b u)) d.1
-  ]
-  | inr a ↦ elim (two (nat_eq p.0 y)) [
-    | inl b ↦ clash (reaches ps p.1) (ap (reaches ps) (sym (here y b) ∙ sym e ∙ there x a) ∙ reaches_at ps x (rest x a t)) d.1
-    | inr b ↦ one_label ps x y d.2 (rest x a t) (rest y b u) (sym (there x a) ∙ e ∙ there y b)
-  ]
-]
-  where
-    here : (z : ℕ) → nat_eq p.0 z ≡ true → at (p ∷ ps) z ≡ p.1
-    here z q = ap (λ c. cond c p.1 (at ps z)) q
-
-    there : (z : ℕ) → nat_eq p.0 z ≡ false → at (p ∷ ps) z ≡ at ps z
-    there z q = ap (λ c. cond c p.1 (at ps z)) q
-
-    rest : (z : ℕ) → nat_eq p.0 z ≡ false → takes (p ∷ ps) z ≡ true → takes ps z ≡ true
-    rest z q r = sym (ap (λ c. c || takes ps z) q) ∙ r
-
 module _ (m : List (ℕ × ℕ)) (d : Differ m) where
   pub has-image : (f : List ℕ) (x : ℕ) → Taken m f → takes m x ≡ true → has (face_image m f) (at m x) ≡ has f x
   has-image f x tf tx = both_ways (has (face_image m f) (at m x)) (has f x)
       (λ p. let q : (y : ℕ) × (has f y ≡ true) × (at m x ≡ at m y) = image_has m f (at m x) p in
-      ap (has f) (one_label m x q.0 d tx (passes_has (takes m) f q.0 tf q.1) q.2) ∙ q.1)
+      ap (has f) (injective m x q.0 d tx (passes_has (takes m) f q.0 tf q.1) q.2) ∙ q.1)
       (in_image m f x)
 
   pub holds-image : (f r : List ℕ) → Taken m f → Taken m r → holds (face_image m f) (face_image m r) ≡ holds f r
@@ -182,7 +114,7 @@ module _ (m : List (ℕ × ℕ)) (d : Differ m) where
       ap (has (face_image m (without f x))) q.2 ∙ in_image m (without f x) q.0 (in_without f x q.0 q.1 (λ e. without_other (face_image m f) (at m x) k p (q.2 ∙ ap (at m) e))))
       (λ p. let q : (z : ℕ) × (has (without f x) z ≡ true) × (k ≡ at m z) = image_has m (without f x) k p in
       let zf : has f q.0 ≡ true = without_has f x q.0 q.1 in
-      in_without (face_image m f) (at m x) k (ap (has (face_image m f)) q.2 ∙ in_image m f q.0 zf) (λ e. without_other f x q.0 q.1 (one_label m q.0 x d (passes_has (takes m) f q.0 tf zf) tx (sym q.2 ∙ e)))))
+      in_without (face_image m f) (at m x) k (ap (has (face_image m f)) q.2 ∙ in_image m f q.0 zf) (λ e. without_other f x q.0 q.1 (injective m q.0 x d (passes_has (takes m) f q.0 tf zf) tx (sym q.2 ∙ e)))))
 
   pub length-image : (f : List ℕ) → IsStrictlySortedBy nat_cmp f → Taken m f → length (face_image m f) ≡ length f
   length-image [] s t = refl
@@ -196,7 +128,7 @@ module _ (m : List (ℕ × ℕ)) (d : Differ m) where
   pub common-image : (a b : List ℕ) → Taken m a → Taken m b → list_any (λ x. has (face_image m b) x) (face_image m a) ≡ list_any (λ x. has b x) a
   common-image a b ta tb =
       any-rising nat_cmp equal_cmp (λ x. has (face_image m b) x) (map (at m) a)
-      ∙ any-map (λ x. has (face_image m b) x) (at m) a
+      ∙ list_any-map (λ x. has (face_image m b) x) (at m) a
       ∙ any_label (λ x. has (face_image m b) (at m x)) (λ x. has b x) a (λ x t. has-image b x tb (passes_has (takes m) a x ta t))
 
   -- ---- sides
@@ -229,9 +161,9 @@ module _ (m : List (ℕ × ℕ)) (d : Differ m) where
 -- what a rising list becomes is what any list with its members becomes
 pub listed-map_rising : (m : List (ℕ × ℕ)) (fs : List (List ℕ)) (g : List ℕ) → listed (map (face_image m) (rising face_cmp fs)) g ≡ listed (map (face_image m) fs) g
 listed-map_rising m fs g =
-    any-map (λ s. pointwise nat_eq s g) (face_image m) (rising face_cmp fs)
+    list_any-map (λ s. pointwise nat_eq s g) (face_image m) (rising face_cmp fs)
     ∙ any-rising face_cmp exact_faces (λ s. pointwise nat_eq (face_image m s) g) fs
-    ∙ sym (any-map (λ s. pointwise nat_eq s g) (face_image m) fs)
+    ∙ sym (list_any-map (λ s. pointwise nat_eq s g) (face_image m) fs)
 
 pub image-rising : (m : List (ℕ × ℕ)) (fs : List (List ℕ)) → image m (rising face_cmp fs) ≡ image m fs
 image-rising m fs = same_lists (image m (rising face_cmp fs)) (image m fs)
@@ -269,5 +201,5 @@ module _ (m : List (ℕ × ℕ)) (d : Differ m) (fs : List (List ℕ)) (all : ta
   pub held-image : (r : List ℕ) → Taken m r → is_held (image m fs) (face_image m r) ≡ is_held fs r
   held-image r tr =
       any-rising face_cmp exact_faces (λ f. holds f (face_image m r)) (map (face_image m) fs)
-      ∙ any-map (λ f. holds f (face_image m r)) (face_image m) fs
+      ∙ list_any-map (λ f. holds f (face_image m r)) (face_image m) fs
       ∙ any_set (λ f. holds (face_image m f) (face_image m r)) (λ f. holds f r) fs (λ f t. holds-image m d f r (taken_set f t) tr)

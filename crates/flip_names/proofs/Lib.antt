@@ -6,4 +6,3 @@ pub mod Boundaries
 pub mod Replays
 pub mod FirstIllegals
 pub mod Staying
-pub mod Sides

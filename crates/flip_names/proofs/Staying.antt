@@ -1,6 +1,6 @@
 -- Legal flips whose B has two labels or more bring no new label.
-use Rattle.std.proofs.Common.{◌≡◌, ◌≢◌, ℕ, Bool, true, nat_eq, ◌||◌, List, [], ◌∷◌, Ok, Some, sym, ◌∙◌, ap, refl, inl, inr}
-use Rattle.std.specs.List.{list_any, list_all}
+use Rattle.std.proofs.Common.{◌≡◌, ◌≢◌, ℕ, true, nat_eq, List, [], ◌∷◌, Ok, Some, sym, ◌∙◌, ap, refl}
+use Rattle.std.specs.List.{list_all}
 use Rattle.std.specs.Ordering.{nat_cmp}
 use Rattle.std.specs.Cmp.{first_so}
 use Rattle.std.specs.Cmp.Derive.{both_true}
@@ -9,8 +9,7 @@ use Rattle.complex_core.specs.Labels.{has, holds, without}
 use Rattle.complex_core.specs.Spaces.{Space}
 use Rattle.complex_core.specs.Maps.{takes, takes_all}
 use Rattle.complex_core.proofs.Sets.{above_tail}
-use Rattle.complex_core.proofs.Laws.{each_has, has-union, holds_has, listed, listed-filter, listed-rising, or_left, or_right, passes_listed, same_set_itself, some_has}
-use Rattle.complex_core.proofs.SubsetLists.{two, clash}
+use Rattle.complex_core.proofs.Laws.{each_has, has-union, holds_has, listed, listed-filter, listed-rising, or_right, passes_listed, same_set_itself, some_has}
 use Rattle.flip_rules.specs.declared.flip.Flip.{Flip}
 use Rattle.flip_rules.specs.Flips.{sides, why, flipped, replay, Legal, OfFaces}
 use Rattle.flip_rules.proofs.Legal.{legal}
@@ -18,17 +17,11 @@ use Rattle.flip_rules.proofs.Links.{side, listed-sides}
 use Rattle.flip_rules.proofs.Replays.{first_flip}
 use Rattle.flip_names.specs.Names.{takes_flip}
 use Rattle.flip_names.specs.Laws.{HasPositiveIndex, ReducingFlipsStay}
-use Rattle.flip_names.proofs.Images.{Taken, passes_has, in_without}
+use Rattle.flip_names.proofs.Images.{Taken}
 use Rattle.flip_names.proofs.Boundaries.{other_label}
 use Rattle.flip_names.proofs.Flips.{flip_stays_taken}
-
--- some set of a list passes a test
-some_set : (p : List ℕ → Bool) (fs : List (List ℕ)) → list_any p fs ≡ true → (f : List ℕ) × (listed fs f ≡ true) × (p f ≡ true)
-some_set p [] h = clash true refl (sym h)
-some_set p (f ∷ fs) h = elim (two (p f)) [
-  | inl e ↦ (f, or_left (pointwise nat_eq f f) (listed fs f) (same_set_itself f), e)
-  | inr e ↦ let q : (g : List ℕ) × (listed fs g ≡ true) × (p g ≡ true) = some_set p fs (sym (ap (λ c. c || list_any p fs) e) ∙ h) in (q.0, or_right (pointwise nat_eq f q.0) (listed fs q.0) q.1, q.2)
-]
+use Rattle.complex_core.proofs.Members.{in_without, passes_has}
+use Rattle.complex_core.proofs.SetLists.{found_set}
 
 -- the labels of A are in a facet that contains A, and each label of B is in the side without another one
 flip_taken : (m : List (ℕ × ℕ)) (k : Space) (f : Flip) → takes_all m k.facets ≡ true → OfFaces f → HasPositiveIndex f → why k f.a f.b ≡ Ok tt → takes_flip m f ≡ true
@@ -42,7 +35,7 @@ flip_taken m k f all faces many e = both_true first second
 
     first : Taken m f.a
     first =
-        let q : (g : List ℕ) × (listed k.facets g ≡ true) × (holds g f.a ≡ true) = some_set (λ g. holds g f.a) k.facets l.face in
+        let q : (g : List ℕ) × (listed k.facets g ≡ true) × (holds g f.a ≡ true) = found_set (λ g. holds g f.a) k.facets l.face in
         each_has (takes m) f.a (λ x t. passes_has (takes m) q.0 x (in_facet q.0 q.1) (holds_has q.0 f.a x q.2 t))
 
     side_there : (y : ℕ) → has f.b y ≡ true → listed k.facets (side f.a f.b y) ≡ true

@@ -11,4 +11,4 @@ mod laws;
 mod names;
 
 pub use laws::{reducing_flips_stay, renaming_law};
-pub use names::{named_flip, named_flips};
+pub use names::{named_flip, named_flips, push_named};

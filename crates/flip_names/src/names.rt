@@ -1,28 +1,14 @@
 // Flips under other labels.
-ghost use Rattle.std.specs.Prelude.{◌≡◌, IfOk, OnOk, true};
-ghost use Rattle.std.specs.List.{list_all, AllByRecursion};
+ghost use Rattle.std.specs.Prelude.{◌≡◌, ◌++◌, IfOk, OnOk, true};
+ghost use Rattle.std.specs.List.{AllByRecursion};
 ghost use Rattle.std.specs.Option.{SomeIff};
-ghost use Rattle.complex_core.specs.Labels.{IsFace};
-ghost use Rattle.complex_core.specs.Maps.{IsMap, takes, face_image};
+ghost use Rattle.complex_core.specs.Maps.{IsMap};
 ghost use Rattle.flip_rules.specs.Flips.{OfFaces};
 ghost use Rattle.flip_names.specs.Names.{named_flip, named_flips, takes_flip, takes_flips};
 
-use complex_core::{Face, VertexMap};
+use complex_core::{VertexMap, image_of};
 use flip_rules::Flip;
 use std::alloc::{AllocError, Global};
-
-// A side of a flip in other labels, where each of its labels has a pair.
-#[tactic(auto, using(crate::proofs::Sides::unnamed, crate::proofs::Sides::unfit))]
-fn named_side(side: &Face, names: &VertexMap) -> Option<Face>
-    ensures named { SomeIff result (list_all (takes names.now) side.now ≡ true) (face_image names.now side.now) }
-    ensures face { IsFace side.now }
-{
-    let mut image = Face::new();
-    for label in side.labels().as_slice() {
-        image = image.with(names.get(*label)?)?;
-    }
-    Some(image)
-}
 
 /// The flip with each label replaced by the one that it becomes. `None` exactly where a label of A
 /// or B has no pair. It takes no memory.
@@ -35,15 +21,36 @@ pub fn named_flip(flip: &Flip, names: &VertexMap) -> Option<Flip>
 {
     // A map takes no two labels to the same one: `pairs` says so.
     let _ = names.pairs();
-    let a = named_side(&flip.a, names);
-    let b = named_side(&flip.b, names);
+    let a = image_of(names, &flip.a);
+    let b = image_of(names, &flip.b);
     Some(Flip { a: a?, b: b? })
+}
+
+/// Adds flips behind others, with each label replaced by the one that it becomes, in their order.
+///
+/// Each label of each flip has a pair: so it is with flips of a positive index that are legal in
+/// order from a complex whose labels have pairs. Whether they have, `named_flip` tells of one flip.
+pub fn push_named(all: &mut Vec<Flip>, flips: &[Flip], names: &VertexMap) -> Result<(), AllocError>
+    requires { takes_flips names.now flips.now ≡ true }
+    ensures named { OnOk result (all.new.items ≡ all.old.items ++ named_flips names.now flips.now) }
+
+    // What the laws of renaming ask of flips and of a map.
+    ensures faces { OnOk result (AllByRecursion OfFaces flips.now) }
+    ensures map { IsMap names.now }
+{
+    let _ = names.pairs();
+    for flip in flips {
+        match named_flip(flip, names) {
+            Some(named) => all.push(named)?,
+            None => unreachable!(),
+        }
+    }
+    Ok(())
 }
 
 /// The flips with each label replaced by the one that it becomes, in their order.
 ///
-/// Each label of each flip has a pair: so it is with flips of a positive index that are legal in
-/// order from a complex whose labels have pairs. Whether they have, `named_flip` tells of one flip.
+/// The condition is that of [`push_named`].
 pub fn named_flips(
     alloc: Global,
     flips: &[Flip],
@@ -56,13 +63,7 @@ pub fn named_flips(
     ensures faces { OnOk result (AllByRecursion OfFaces flips.now) }
     ensures map { IsMap names.now }
 {
-    let _ = names.pairs();
     let mut all = Vec::new(alloc);
-    for flip in flips {
-        match named_flip(flip, names) {
-            Some(named) => all.push(named)?,
-            None => unreachable!(),
-        }
-    }
+    push_named(&mut all, flips, names)?;
     Ok(all)
 }

@@ -14,7 +14,6 @@ use Rattle.flip_rules.specs.Boundaries.{IsBoundary}
 use Rattle.flip_rules.specs.Flips.{flipped}
 use Rattle.flip_rules.specs.declared.flip.Flip.{Flip}
 use Rattle.flip_rules.proofs.Links.{side}
-use Rattle.pseudo_test.proofs.Subsets.{in_without}
 use Rattle.stars.specs.StarViews.{StarList, IsStarListOf, OnPlaces, UsesUpTo, places_in}
 use Rattle.descent_laws.specs.Descents.{IsReducing, IsMinimal, IsBest, IsDescent}
 use Rattle.descent_laws.specs.Laws.{Descends, IsCycle}
@@ -22,10 +21,10 @@ use Rattle.descent_laws.proofs.Reducing.{other_label, two_at_least}
 use Rattle.descent_laws.proofs.Falling.{flip_falls}
 use Rattle.descent_laws.proofs.DescentRuns.{descent_descends}
 use Rattle.descent_laws.proofs.Cycles.{cycle_ends}
-use Rattle.flip_options.specs.OptionViews.{AreOptions}
 use Rattle.flip_options.specs.DescentViews.{AreHeld}
 use Rattle.flip_options.proofs.Flipping.{linked}
 use Rattle.flip_options.proofs.Places.{place_high}
+use Rattle.complex_core.proofs.Members.{in_without, each_member}
 
 -- ---- labels
 
@@ -47,10 +46,6 @@ uses_up_to k items shown n e is last =
     let P : ℕ → Type 0 = λ g. AllByRecursion (λ x. x ≤ g) (used k.facets) in
     subst P (sym (last ∙ ap greatest (is ∙ e))) (up_to_last (used k.facets) (sorted_rising nat_cmp_total (flat_map (λ f. f) k.facets)))
 
-each_label : (P : ℕ → Type 0) (xs : List ℕ) → ((x : ℕ) → has xs x ≡ true → P x) → AllByRecursion P xs
-each_label P [] h = tt
-each_label P (x ∷ xs) h = (h x (or_left (nat_eq x x) (has xs x) (nat_eq_same x)), each_label P xs (λ z t. h z (or_right (nat_eq x z) (has xs z) t)))
-
 first_label : (b : List ℕ) → 0 < length b → (y : ℕ) × (has b y ≡ true)
 first_label [] n = absurd (omega (arith, n))
 first_label (y ∷ ys) n = (y, or_left (nat_eq y y) (has ys y) (nat_eq_same y))
@@ -58,10 +53,10 @@ first_label (y ∷ ys) n = (y, or_left (nat_eq y y) (has ys y) (nat_eq_same y))
 -- the labels of a candidate are places
 pub on_places : (k : Space) (s : StarList) (f : Flip) → IsStarListOf k s → IsReducing k f → OnPlaces s f
 on_places k s f h r = record {
-  first = each_label (λ x. x ≤ places_in s) f.a (λ x t.
+  first = each_member (λ x. x ≤ places_in s) f.a (λ x t.
       let y : (y : ℕ) × (has f.b y ≡ true) = first_label f.b (omega (arith, two_at_least k f r)) in
       place_high k s (side f.a f.b y.0) x h (there y.0 y.1) (has-union f.a (without f.b y.0) x ∙ or_left (has f.a x) (has (without f.b y.0) x) t));
-  second = each_label (λ x. x ≤ places_in s) f.b (λ x t.
+  second = each_member (λ x. x ≤ places_in s) f.b (λ x t.
       let y : (y : ℕ) × (has f.b y ≡ true) × (x ≢ y) = other_label f.b x (above_tail nat_cmp 0 f.b r.faces.second.rising) (two_at_least k f r) in
       place_high k s (side f.a f.b y.0) x h (there y.0 y.1) (has-union f.a (without f.b y.0) x ∙ or_right (has f.a x) (has (without f.b y.0) x) (in_without f.b y.0 x t y.2)));
 }
@@ -90,9 +85,6 @@ pub record Descending (k : Space) (flips : List Flip) (stars : StarList) (option
   pub held : AreHeld now stars options
   pub falls : length flips + length now.facets ≤ length k.facets
 
-pub descending_start : (k : Space) (flips : List Flip) (s : StarList) (o : Option (List Flip)) → flips ≡ [] → IsStarListOf k s → AreOptions k o → Descending k flips s o
-descending_start k flips s o e h a = let P : List Flip → Type 0 = λ fs. Descending k fs s o in subst P (sym e) (record { now = k; run = refl; held = record { rows = h; had = a }; falls = omega arith })
-
 pub descending_more : (k : Space) (fs gs : List Flip) (s t : StarList) (o q : Option (List Flip)) (f : Flip) → (d : Descending k fs s o) → IsBest d.now f → gs ≡ fs ++ f ∷ [] → ((l : Space) → AreHeld l s o → IsReducing l f → AreHeld (flipped l f.a f.b) t q) → Descending k gs t q
 descending_more k fs gs s t o q f d b e h =
     let P : List Flip → Type 0 = λ hs. Descending k hs t q in
@@ -102,10 +94,6 @@ descending_more k fs gs s t o q f d b e h =
       held = h d.now d.held b.reduces;
       falls = omega (arith, d.falls, flip_falls d.now f b.reduces, length-append fs (f ∷ []));
     })
-
--- there are fewer flips than facets
-pub descending_falls : (k : Space) (fs : List Flip) (n : ℕ) (s : StarList) (o : Option (List Flip)) → n ≡ length fs → Descending k fs s o → length k.facets - (n + 1) < length k.facets - n
-descending_falls k fs n s o e d = omega (arith, e, d.falls, d.held.rows.complex.some)
 
 pub descends_end : (k : Space) (fs : List Flip) (s : StarList) (o : Option (List Flip)) (end : Space) → (d : Descending k fs s o) → IsMinimal d.now → ((l : Space) → IsStarListOf l s → end ≡ l) → IsDescent k fs end
 descends_end k fs s o end d n h = let P : Space → Type 0 = λ l. IsDescent k fs l in subst P (sym (h d.now d.held.rows)) (run_ends k d.now fs d.run n)

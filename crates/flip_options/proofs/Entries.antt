@@ -19,11 +19,11 @@ use Rattle.complex_core.proofs.Laws.{nat_eq_is}
 use Rattle.flip_rules.specs.Flips.{Legal}
 use Rattle.flip_rules.specs.declared.flip.Flip.{Flip}
 use Rattle.flip_rules.proofs.Legal.{legal}
-use Rattle.pseudo_test.proofs.Subsets.{two}
 use Rattle.descent_laws.specs.Descents.{IsReducing, AreCandidates, best_cmp}
 use Rattle.descent_laws.proofs.Reducing.{first_determines}
 use Rattle.flip_options.specs.Tables.{Table, key_cmp, key_of, flip_from, flips_of, is_sized, IsRight}
 use Rattle.flip_options.proofs.Keys.{key_total, tied_key, same_key}
+use Rattle.complex_core.proofs.SubsetLists.{two}
 
 abbrev Entry : Type 0
 Entry = (ℕ × List ℕ) × List ℕ

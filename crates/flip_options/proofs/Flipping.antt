@@ -14,12 +14,14 @@ use Rattle.flip_rules.specs.Flips.{OfFaces, why, flipped, Legal}
 use Rattle.flip_rules.specs.declared.flip.Flip.{Flip}
 use Rattle.flip_rules.proofs.Links.{side}
 use Rattle.flip_rules.proofs.Legal.{legal, legal_from}
-use Rattle.pseudo_test.proofs.Subsets.{two, clash, not_true, holds_without, holds_through, holds_less, lacking}
+use Rattle.pseudo_test.proofs.Subsets.{holds_without, holds_through, holds_less, lacking}
 use Rattle.pseudo_test.proofs.Sided.{found_set}
 use Rattle.flip_laws.proofs.Exchange.{Exchange, turned, made_exchange}
 use Rattle.descent_laws.specs.Descents.{IsReducing}
 use Rattle.descent_laws.proofs.Reducing.{side_there}
 use Rattle.flip_options.specs.Tables.{Table, key_cmp, key_of, flip_from, IsRight, IsPart, IsLinked, MeetsChanged}
+use Rattle.std.proofs.lemmas.Bool.{false_from_ne_true}
+use Rattle.complex_core.proofs.SubsetLists.{two, clash}
 
 module _ (fs gs : List (List ℕ)) (a b w : List ℕ) (e : Exchange fs gs a b w) where
   -- a facet that contains a set outside the changed part stays
@@ -58,7 +60,7 @@ legal_stays k l a b w c d e n out free h = record {
   shape = record { first = h.shape.first; second = h.shape.second; apart = h.shape.apart; sizes = omega (arith, h.shape.sizes, n) };
   face = sym (held_alike k.facets l.facets c same) ∙ h.face;
   link = sym same ∙ h.link;
-  free = not_true (is_held l.facets d) (λ t. clash {P = ⊥} (is_held k.facets d) (held_stays l.facets k.facets b a w (turned k.facets l.facets a b w e) d t free) h.free);
+  free = false_from_ne_true (is_held l.facets d) (λ t. clash {P = ⊥} (is_held k.facets d) (held_stays l.facets k.facets b a w (turned k.facets l.facets a b w e) d t free) h.free);
 }
   where
     same : over k.facets c ≡ over l.facets c

@@ -5,21 +5,24 @@ use Rattle.std.specs.Ordering.{nat_cmp}
 use Rattle.std.specs.Cmp.{first_so, second_so}
 use Rattle.std.specs.Cmp.Derive.{both_true}
 use Rattle.std.specs.Cmp.Lexicographic.{pointwise}
-use Rattle.std.proofs.lemmas.Bool.{cases_lt}
+use Rattle.std.proofs.lemmas.Bool.{cases_lt, false_from_ne_true, or_cases}
 use Rattle.std.proofs.lemmas.List.{take_more}
 use Rattle.complex_core.specs.Labels.{IsFace, has, holds, union, without}
 use Rattle.complex_core.specs.Links.{less}
 use Rattle.complex_core.specs.Spaces.{Space, over, is_facet}
 use Rattle.complex_core.proofs.Sets.{above_tail}
-use Rattle.complex_core.proofs.SubsetLists.{fewer}
-use Rattle.complex_core.proofs.Laws.{both_ways, has-union, has-without, holds_has, holds_each, or_left, or_right, listed, listed-filter, listed-append, same_labels, same_sets_is, same_set_itself, nat_eq_swap, sorted_union, sorted_without, length-union_apart}
+use Rattle.complex_core.proofs.SubsetLists.{fewer, clash}
+use Rattle.complex_core.proofs.Laws.{both_ways, has-union, holds_has, holds_each, or_left, or_right, listed, listed-filter, listed-append, same_labels, same_set_itself, sorted_union, length-union_apart}
 use Rattle.flip_rules.specs.Flips.{Legal}
 use Rattle.flip_rules.proofs.Links.{side}
 use Rattle.flip_rules.proofs.Legal.{legal}
-use Rattle.pseudo_test.proofs.Subsets.{clash, not_true, in_without, without_has, holds_through}
+use Rattle.pseudo_test.proofs.Subsets.{holds_through}
 use Rattle.descent_laws.specs.Descents.{IsReducing}
 use Rattle.descent_laws.proofs.Reducing.{other_label, side_there, side_back, two_at_least}
 use Rattle.flip_options.specs.Tables.{HoldsOver, IsJoin, TooMany, flip_from}
+use Rattle.complex_core.proofs.Members.{without_has, in_without, sorted_less, has-less}
+use Rattle.stars.proofs.Flipping.{labels_held}
+use Rattle.descent_laws.proofs.Edges.{one_listed}
 
 -- what is joined before the row at a place
 pub record JoinSoFar (rows : List (List ℕ)) (set : List ℕ) (i : ℕ) (all : List ℕ) : Type 0 where
@@ -31,19 +34,12 @@ pub record JoinSoFar (rows : List (List ℕ)) (set : List ℕ) (i : ℕ) (all : 
 holds_itself : (f : List ℕ) → holds f f ≡ true
 holds_itself f = holds_each f f (λ z t. t)
 
-either : (p q : Bool) → (p || q) ≡ true → (p ≡ true) ⊎ (q ≡ true)
-either true q h = inl refl
-either false q h = inr h
-
-one_listed : (g h : List ℕ) → listed (g ∷ []) h ≡ true → h ≡ g
-one_listed g h t = elim (either (pointwise nat_eq g h) false t) [ inl e ↦ sym (same_sets_is g h e) | inr f ↦ clash true refl (sym f) ]
-
 -- a row over the set, before the next place, stands there or earlier
 pub next_row : (rows : List (List ℕ)) (set : List ℕ) (i : ℕ) (row f : List ℕ) → i < length rows → row ≡ get_or rows i row → is_facet (over (take (i + 1) rows) set) f ≡ true → (is_facet (over (take i rows) set) f ≡ true) ⊎ (f ≡ row)
 next_row rows set i row f l e t =
     let u : (listed (take (i + 1) rows) f && holds f set) ≡ true = sym (listed-filter (λ g. holds g set) (take (i + 1) rows) f) ∙ t in
     let v : (listed (take i rows) f || listed (get_or rows i row ∷ []) f) ≡ true = sym (listed-append (take i rows) (get_or rows i row ∷ []) f) ∙ ap (λ gs. listed gs f) (sym (take_more rows i row l)) ∙ first_so (listed (take (i + 1) rows) f) (holds f set) u in
-    elim (either (listed (take i rows) f) (listed (get_or rows i row ∷ []) f) v) [
+    elim (or_cases (listed (take i rows) f) (listed (get_or rows i row ∷ []) f) v) [
       | inl p ↦ inl (listed-filter (λ g. holds g set) (take i rows) f ∙ both_true p (second_so (listed (take (i + 1) rows) f) (holds f set) u))
       | inr p ↦ inr (one_listed (get_or rows i row) f p ∙ sym e)
     ]
@@ -55,9 +51,6 @@ listed_at (x ∷ xs) (suc i) row l e = or_right (pointwise nat_eq x row) (listed
 
 over_at : (rows : List (List ℕ)) (set : List ℕ) (i : ℕ) (row : List ℕ) → i < length rows → row ≡ get_or rows i row → holds row set ≡ true → is_facet (over rows set) row ≡ true
 over_at rows set i row l e h = listed-filter (λ g. holds g set) rows row ∙ both_true (listed_at rows i row l e) h
-
-holds_both : (w f g : List ℕ) → holds w f ≡ true → holds w g ≡ true → holds w (union f g) ≡ true
-holds_both w f g p q = holds_each w (union f g) (λ z t. elim (either (has f z) (has g z) (sym (has-union f g z) ∙ t)) [ inl u ↦ holds_has w f z p u | inr u ↦ holds_has w g z q u ])
 
 union_first : (f g : List ℕ) → holds (union f g) f ≡ true
 union_first f g = holds_each (union f g) f (λ z t. has-union f g z ∙ or_left (has f z) (has g z) t)
@@ -87,12 +80,12 @@ so_far_more rows set i row all more now j l e h is face same = let P : List ℕ 
     | inl p ↦ holds_through (union all row) all f (union_first all row) (j.each f p)
     | inr p ↦ ap (holds (union all row)) p ∙ union_second all row
   ];
-  least = λ w g. holds_both w all row (j.least w g) (g.each row (over_at rows set i row l e h));
+  least = λ w g. labels_held w all row (j.least w g) (g.each row (over_at rows set i row l e h));
 })
 
 pub too_many : (rows : List (List ℕ)) (set : List ℕ) (i : ℕ) (row all : List ℕ) (most : ℕ) → JoinSoFar rows set i all → i < length rows → row ≡ get_or rows i row → holds row set ≡ true → most < length (union all row) → TooMany rows set most
 too_many rows set i row all most j l e h many w s n g =
-    absurd (omega (arith, fewer (union all row) w (sorted_union all row (above_tail nat_cmp 0 all j.face.rising)) s (holds_both w all row (j.least w g) (g.each row (over_at rows set i row l e h))), n, many))
+    absurd (omega (arith, fewer (union all row) w (sorted_union all row (above_tail nat_cmp 0 all j.face.rising)) s (labels_held w all row (j.least w g) (g.each row (over_at rows set i row l e h))), n, many))
 
 pub so_far_end : (rows : List (List ℕ)) (set : List ℕ) (i : ℕ) (all : List ℕ) → JoinSoFar rows set i all → length rows ≤ i → IsJoin rows set all
 so_far_end rows set i all j l = record {
@@ -120,13 +113,13 @@ flip_over k rows a b e l = record {
   own = union_first a b;
   each = λ f t.
       let x : (x : ℕ) × (has b x ≡ true) × (f ≡ side a b x) = side_back k a b f l (ap (λ gs. is_facet gs f) (sym e) ∙ t) in
-      ap (holds (union a b)) x.2 ∙ holds_both (union a b) a (without b x.0) (union_first a b) (holds_each (union a b) (without b x.0) (λ z u. has-union a b z ∙ or_right (has a z) (has b z) (without_has b x.0 z u)));
+      ap (holds (union a b)) x.2 ∙ labels_held (union a b) a (without b x.0) (union_first a b) (holds_each (union a b) (without b x.0) (λ z u. has-union a b z ∙ or_right (has a z) (has b z) (without_has b x.0 z u)));
 }
 
 flip_size : (k : Space) (a b : List ℕ) → IsReducing k (flip_from a b) → length (union a b) ≡ k.dim + 2
 flip_size k a b r =
     let l : Legal k a b = legal k a b r.legal in
-    omega (arith, length-union_apart a b (above_tail nat_cmp 0 b r.faces.second.rising) (λ z t. not_true (has a z) (λ u. clash {P = ⊥} (has b z) t (l.shape.apart z u))), l.shape.sizes)
+    omega (arith, length-union_apart a b (above_tail nat_cmp 0 b r.faces.second.rising) (λ z t. false_from_ne_true (has a z) (λ u. clash {P = ⊥} (has b z) t (l.shape.apart z u))), l.shape.sizes)
 
 flip_sorted : (k : Space) (a b : List ℕ) → IsReducing k (flip_from a b) → IsStrictlySortedBy nat_cmp (union a b)
 flip_sorted k a b r = sorted_union a b (above_tail nat_cmp 0 a r.faces.first.rising)
@@ -142,7 +135,7 @@ join_is k rows a b all e j r =
     same_labels all (union a b) (above_tail nat_cmp 0 all j.face.rising) (flip_sorted k a b r) (λ z.
     both_ways (has all z) (has (union a b) z)
     (λ t. holds_has (union a b) all z (j.least (union a b) (flip_over k rows a b e l)) t)
-    (λ t. elim (either (has a z) (has b z) (sym (has-union a b z) ∙ t)) [
+    (λ t. elim (or_cases (has a z) (has b z) (sym (has-union a b z) ∙ t)) [
       | inl u ↦ holds_has all a z j.has.own u
       | inr u ↦
           let y : (y : ℕ) × (has b y ≡ true) × (z ≢ y) = other_label b z (above_tail nat_cmp 0 b r.faces.second.rising) (two_at_least k (flip_from a b) r) in
@@ -152,21 +145,6 @@ join_is k rows a b all e j r =
 
 pub join_size : (k : Space) (rows : List (List ℕ)) (a b all : List ℕ) → over rows a ≡ over k.facets a → IsJoin rows a all → IsReducing k (flip_from a b) → length all ≡ k.dim + 2
 join_size k rows a b all e j r = ap length (join_is k rows a b all e j r) ∙ flip_size k a b r
-
-pub has-less : (f s : List ℕ) (z : ℕ) → has (less f s) z ≡ (has f z && not (has s z))
-has-less f [] z = elim (has f z) as (λ c. c ≡ (c && true)) [ true ↦ refl | false ↦ refl ]
-has-less f (x ∷ xs) z = has-less (without f x) xs z ∙ ap (λ c. c && not (has xs z)) (has-without f x z) ∙ regroup (has f z) (nat_eq z x) (nat_eq x z) (has xs z) (nat_eq_swap z x)
-  where
-    regroup : (p q r t : Bool) → q ≡ r → ((p && not q) && not t) ≡ (p && not (r || t))
-    regroup false q r t e = refl
-    regroup true true true t e = refl
-    regroup true false false t e = refl
-    regroup true true false t e = cc
-    regroup true false true t e = cc
-
-pub sorted_less : (f s : List ℕ) → IsStrictlySortedBy nat_cmp f → IsStrictlySortedBy nat_cmp (less f s)
-sorted_less f [] p = p
-sorted_less f (x ∷ xs) p = sorted_less (without f x) xs (sorted_without f x p)
 
 -- B is what is left of them without A
 pub less_is : (k : Space) (a b all : List ℕ) → all ≡ union a b → IsReducing k (flip_from a b) → less all a ≡ b

@@ -1,26 +1,21 @@
 -- The order of the table's keys.
-use Rattle.std.proofs.Common.{◌≡◌, ◌∙◌, ℕ, List, sym, ap, refl}
+use Rattle.std.proofs.Common.{◌≡◌, ◌∙◌, ℕ, List, sym, ap}
 use Rattle.std.specs.Ordering.{nat_cmp, is_eq}
 use Rattle.std.specs.Cmp.{IsTotalOrder}
 use Rattle.std.specs.Cmp.Lexicographic.{nat_list_cmp_total}
-use Rattle.std.specs.declared.cmp.Ordering.{Ordering}
-use Rattle.std.specs.declared.cmp.Ordering.TheVariants.{Less, Equal, Greater}
+use Rattle.std.specs.declared.cmp.Ordering.TheVariants.{Equal}
 use Rattle.std.proofs.Common.{true}
 use Rattle.std.proofs.lemmas.Cmp.{nat_cmp_total, on_total, then_total, tied_itself}
 use Rattle.std.proofs.lemmas.Map.Lookups.{exact_unsigned, exact_bytes, exact_pairs}
 use Rattle.complex_core.specs.Labels.{face_cmp}
 use Rattle.flip_options.specs.Tables.{key_cmp}
+use Rattle.descent_laws.proofs.Candidates.{equal_is}
 
 pub key_total : IsTotalOrder key_cmp
 key_total = then_total (on_total (λ (p : ℕ × List ℕ). p.0) nat_cmp_total) (on_total (λ (p : ℕ × List ℕ). p.1) nat_list_cmp_total)
 
 pub key_exact : (p q : ℕ × List ℕ) → key_cmp p q ≡ Equal → p ≡ q
 key_exact p q h = exact_pairs nat_cmp face_cmp exact_unsigned exact_bytes p q h
-
-pub equal_is : (o : Ordering) → is_eq o ≡ true → o ≡ Equal
-equal_is Less h = cc
-equal_is Equal h = refl
-equal_is Greater h = cc
 
 -- a key that ties is the same
 pub tied_key : (p q : ℕ × List ℕ) → is_eq (key_cmp p q) ≡ true → p ≡ q

@@ -5,8 +5,7 @@ use Rattle.std.specs.List.Sorted.{IsStrictlySortedBy}
 use Rattle.std.specs.Ordering.{nat_cmp}
 use Rattle.std.specs.Cmp.{second_so}
 use Rattle.std.specs.Cmp.Derive.{both_true}
-use Rattle.std.specs.Cmp.Lexicographic.{pointwise}
-use Rattle.std.proofs.lemmas.Bool.{cases_lt}
+use Rattle.std.proofs.lemmas.Bool.{cases_lt, or_cases}
 use Rattle.std.proofs.lemmas.List.{take_more}
 use Rattle.std.proofs.lemmas.Option.{none-some, same_Some}
 use Rattle.complex_core.proofs.Sets.{above_tail}
@@ -14,25 +13,20 @@ use Rattle.complex_core.specs.Labels.{IsFace, has, holds, union, without}
 use Rattle.complex_core.specs.Links.{less}
 use Rattle.complex_core.specs.Spaces.{Space, over, is_facet}
 use Rattle.complex_core.specs.Subsets.{IsSubset, lists}
-use Rattle.complex_core.proofs.Laws.{has-union, has-without, holds_each, or_left, or_right, listed, listed-append, listed-filter, nat_eq_same, same_labels, same_sets_is, sorted_union, length-without}
+use Rattle.complex_core.proofs.Laws.{has-union, has-without, holds_each, or_left, or_right, listed, listed-append, listed-filter, nat_eq_same, same_labels, sorted_union, length-without}
 use Rattle.flip_rules.specs.declared.flip.Flip.{Flip}
 use Rattle.flip_rules.proofs.Links.{side}
-use Rattle.pseudo_test.proofs.Subsets.{clash}
 use Rattle.stars.specs.StarViews.{StarList, IsStarListOf, star_at, places_in}
-use Rattle.flip_options.specs.Tables.{Table, Refreshed, IsPart, IsPartBelow, IsPartAt, IsLinked, IsChanged, MeetsChanged, MeetsBelow}
-use Rattle.flip_options.proofs.Refreshing.{refreshed_none, refreshed_then, refreshed_so}
+use Rattle.flip_options.specs.Tables.{Table, Refreshed, IsPart, IsPartBelow, IsPartAt, IsLinked, IsChanged, MeetsBelow}
+use Rattle.flip_options.proofs.Refreshing.{refreshed_then, refreshed_so}
 use Rattle.std.specs.Prelude.{IsTrue, ◌↔◌}
-use Rattle.flip_options.proofs.Joining.{listed_at, next_row, has-less, sorted_less}
-
-either : (p q : Bool) → (p || q) ≡ true → (p ≡ true) ⊎ (q ≡ true)
-either true q h = inl refl
-either false q h = inr h
-
-one_listed : (g h : List ℕ) → listed (g ∷ []) h ≡ true → h ≡ g
-one_listed g h t = elim (either (pointwise nat_eq g h) false t) [ inl e ↦ sym (same_sets_is g h e) | inr f ↦ clash true refl (sym f) ]
+use Rattle.flip_options.proofs.Joining.{listed_at, next_row}
+use Rattle.complex_core.proofs.SubsetLists.{clash}
+use Rattle.complex_core.proofs.Members.{sorted_less, has-less}
+use Rattle.descent_laws.proofs.Edges.{one_listed}
 
 next_set : (xs : List (List ℕ)) (i : ℕ) (x f : List ℕ) → i < length xs → x ≡ get_or xs i x → is_facet (take (i + 1) xs) f ≡ true → (is_facet (take i xs) f ≡ true) ⊎ (f ≡ x)
-next_set xs i x f l e t = elim (either (listed (take i xs) f) (listed (get_or xs i x ∷ []) f) (sym (listed-append (take i xs) (get_or xs i x ∷ []) f) ∙ ap (λ gs. listed gs f) (sym (take_more xs i x l)) ∙ t)) [
+next_set xs i x f l e t = elim (or_cases (listed (take i xs) f) (listed (get_or xs i x ∷ []) f) (sym (listed-append (take i xs) (get_or xs i x ∷ []) f) ∙ ap (λ gs. listed gs f) (sym (take_more xs i x l)) ∙ t)) [
   | inl p ↦ inl p
   | inr p ↦ inr (one_listed (get_or xs i x) f p ∙ sym e)
 ]
@@ -45,33 +39,16 @@ take_all (x ∷ xs) (suc i) l = ap (λ gs. x ∷ gs) (take_all xs i (omega (arit
 
 -- ---- the parts of one size
 
-pub sized_start : (s : StarList) (m : Table) (xs : List (List ℕ)) → Refreshed s m m (λ k a. is_facet (take 0 xs) a ≡ true)
-sized_start s m xs = refreshed_none s m (λ k a. is_facet (take 0 xs) a ≡ true) (λ k a t. clash {P = ⊥} (is_facet (take 0 xs) a) t refl)
-
 pub sized_next : (s : StarList) (m n o : Table) (xs : List (List ℕ)) (i : ℕ) (x : List ℕ) → Refreshed s m n (λ k a. is_facet (take i xs) a ≡ true) → Refreshed s n o (λ k a. a ≡ x) → i < length xs → x ≡ get_or xs i x → Refreshed s m o (λ k a. is_facet (take (i + 1) xs) a ≡ true)
 sized_next s m n o xs i x p q l e = refreshed_then s m n o (λ k a. is_facet (take i xs) a ≡ true) (λ k a. a ≡ x) (λ k a. is_facet (take (i + 1) xs) a ≡ true) p q (λ k h a t. next_set xs i x a l e t)
 
-pub sized_end : (s : StarList) (m n : Table) (xs : List (List ℕ)) (i : ℕ) (set : List ℕ) (size : ℕ) → Refreshed s m n (λ k a. is_facet (take i xs) a ≡ true) → length xs ≤ i → ((a : List ℕ) → IsSubset set size a → is_facet xs a ≡ true) → Refreshed s m n (λ k a. IsSubset set size a)
-sized_end s m n xs i set size p l h = refreshed_so s m n (λ k a. is_facet (take i xs) a ≡ true) (λ k a. IsSubset set size a) p (λ k g a t. ap (λ ys. is_facet ys a) (take_all xs i l) ∙ h a t)
-
 -- ---- the parts of all sizes
-
-pub parts_start : (s : StarList) (m : Table) (set : List ℕ) → Refreshed s m m (λ k a. IsPartBelow 1 set a)
-parts_start s m set = refreshed_none s m (λ k a. IsPartBelow 1 set a) (λ k a t. absurd (omega (arith, t.low, t.high)))
 
 pub parts_next : (s : StarList) (m n o : Table) (set : List ℕ) (size : ℕ) → Refreshed s m n (λ k a. IsPartBelow size set a) → Refreshed s n o (λ k a. IsSubset set size a) → Refreshed s m o (λ k a. IsPartBelow (size + 1) set a)
 parts_next s m n o set size p q = refreshed_then s m n o (λ k a. IsPartBelow size set a) (λ k a. IsSubset set size a) (λ k a. IsPartBelow (size + 1) set a) p q (λ k h a t. elim (cases_lt t.size size) [
   | inl l ↦ inl (record { size = t.size; low = t.low; high = l; is = t.is })
   | inr g ↦ let e : t.size ≡ size = omega (arith, g, t.high) in let P : ℕ → Type 0 = λ z. IsSubset set z a in inr (subst P e t.is)
 ])
-
-pub parts_end : (s : StarList) (m n : Table) (set : List ℕ) (size most : ℕ) → Refreshed s m n (λ k a. IsPartBelow size set a) → most + 1 ≤ size → ((k : Space) → IsStarListOf k s → k.dim ≤ most + most) → Refreshed s m n (λ k a. IsPart k set a)
-parts_end s m n set size most p l h = refreshed_so s m n (λ k a. IsPartBelow size set a) (λ k a. IsPart k set a) p (λ k g a t. record {
-  size = length a;
-  low = t.some;
-  high = omega (arith, t.few, h k g, l);
-  is = record { face = t.face; part = t.part; size = refl };
-})
 
 -- ---- the facets of a star
 
@@ -80,9 +57,6 @@ pub record PartSoFar (rows : List (List ℕ)) (place i : ℕ) (k : Space) (a : L
   pub there : is_facet (take i rows) facet ≡ true
   pub first : slice_get facet 0 ≡ Some place
   pub is : IsPart k facet a
-
-pub star_start : (s : StarList) (m : Table) (rows : List (List ℕ)) (place : ℕ) → Refreshed s m m (λ k a. PartSoFar rows place 0 k a)
-star_start s m rows place = refreshed_none s m (λ k a. PartSoFar rows place 0 k a) (λ k a t. clash {P = ⊥} (is_facet (take 0 rows) t.facet) t.there refl)
 
 pub star_next : (s : StarList) (m n o : Table) (rows : List (List ℕ)) (place i : ℕ) (x : List ℕ) → Refreshed s m n (λ k a. PartSoFar rows place i k a) → Refreshed s n o (λ k a. IsPart k x a) → i < length rows → x ≡ get_or rows i x → Refreshed s m o (λ k a. PartSoFar rows place (i + 1) k a)
 star_next s m n o rows place i x p q l e = refreshed_then s m n o (λ k a. PartSoFar rows place i k a) (λ k a. IsPart k x a) (λ k a. PartSoFar rows place (i + 1) k a) p q (λ k h a t. elim (next_set rows i x t.facet l e t.there) [
@@ -116,9 +90,6 @@ pub record PlacedBelow (place : ℕ) (k : Space) (a : List ℕ) : Type 0 where
   pub high : at < place
   pub is : IsPartAt k (at + 1) a
 
-pub places_start : (s : StarList) (m : Table) → Refreshed s m m (λ k a. PlacedBelow 0 k a)
-places_start s m = refreshed_none s m (λ k a. PlacedBelow 0 k a) (λ k a t. absurd (omega (arith, t.high)))
-
 pub places_next : (s : StarList) (m n o : Table) (place : ℕ) → Refreshed s m n (λ k a. PlacedBelow place k a) → Refreshed s n o (λ k a. IsPartAt k (place + 1) a) → Refreshed s m o (λ k a. PlacedBelow (place + 1) k a)
 places_next s m n o place p q = refreshed_then s m n o (λ k a. PlacedBelow place k a) (λ k a. IsPartAt k (place + 1) a) (λ k a. PlacedBelow (place + 1) k a) p q (λ k h a t. elim (cases_lt t.at place) [
   | inl l ↦ inl (record { at = t.at; high = l; is = t.is })
@@ -131,9 +102,6 @@ pub record IsLeft (rows : List (List ℕ)) (rest other : List ℕ) (i : ℕ) (a 
   pub facet : List ℕ
   pub there : is_facet (over (take i rows) rest) facet ≡ true
   pub is : a ≡ less facet other
-
-pub left_start : (s : StarList) (m : Table) (rows : List (List ℕ)) (rest other : List ℕ) → Refreshed s m m (λ k a. IsLeft rows rest other 0 a)
-left_start s m rows rest other = refreshed_none s m (λ k a. IsLeft rows rest other 0 a) (λ k a t. clash {P = ⊥} (is_facet (over (take 0 rows) rest) t.facet) t.there refl)
 
 pub left_next : (s : StarList) (m n o : Table) (rows : List (List ℕ)) (rest other : List ℕ) (i : ℕ) (x y : List ℕ) → Refreshed s m n (λ k a. IsLeft rows rest other i a) → Refreshed s n o (λ k a. a ≡ y) → y ≡ less x other → i < length rows → x ≡ get_or rows i x → Refreshed s m o (λ k a. IsLeft rows rest other (i + 1) a)
 left_next s m n o rows rest other i x y p q is l e = refreshed_then s m n o (λ k a. IsLeft rows rest other i a) (λ k a. a ≡ y) (λ k a. IsLeft rows rest other (i + 1) a) p q (λ k h a t. elim (next_row rows rest i x t.facet l e t.there) [
@@ -186,9 +154,6 @@ pub record LinkedSoFar (sets : List (List ℕ)) (flip : Flip) (i : ℕ) (k : Spa
   pub side : (holds set flip.a || holds set flip.b) ≡ true
   pub linked : IsLinked k a set
 
-pub linked_start : (s : StarList) (m : Table) (sets : List (List ℕ)) (flip : Flip) → Refreshed s m m (λ k a. LinkedSoFar sets flip 0 k a)
-linked_start s m sets flip = refreshed_none s m (λ k a. LinkedSoFar sets flip 0 k a) (λ k a t. clash {P = ⊥} (is_facet (take 0 sets) t.set) t.there refl)
-
 pub linked_next : (s : StarList) (m n o : Table) (sets : List (List ℕ)) (flip : Flip) (i : ℕ) (x : List ℕ) → Refreshed s m n (λ k a. LinkedSoFar sets flip i k a) → Refreshed s n o (λ k a. IsLinked k a x) → i < length sets → x ≡ get_or sets i x → Refreshed s m o (λ k a. LinkedSoFar sets flip (i + 1) k a)
 linked_next s m n o sets flip i x p q l e = refreshed_then s m n o (λ k a. LinkedSoFar sets flip i k a) (λ k a. IsLinked k a x) (λ k a. LinkedSoFar sets flip (i + 1) k a) p q (λ k h a t. elim (next_set sets i x t.set l e t.there) [
   | inl u ↦ inl (record { set = t.set; there = u; side = t.side; linked = t.linked })
@@ -204,18 +169,7 @@ linked_skip s m n sets flip i x p na nb l e = refreshed_so s m n (λ k a. Linked
 abbrev pub ChangedHere : List ℕ → Flip → ℕ → Space → List ℕ → Type 0
 ChangedHere all flip size k a = (b : List ℕ) × IsChanged all flip.a flip.b b × (length b ≡ size) × IsLinked k a b
 
-pub linked_end : (s : StarList) (m n : Table) (sets : List (List ℕ)) (flip : Flip) (i : ℕ) (all : List ℕ) (size : ℕ) → Refreshed s m n (λ k a. LinkedSoFar sets flip i k a) → length sets ≤ i → ((b : List ℕ) → IsSubset all size b → is_facet sets b ≡ true) → Refreshed s m n (λ k a. ChangedHere all flip size k a)
-linked_end s m n sets flip i all size p l h = refreshed_so s m n (λ k a. LinkedSoFar sets flip i k a) (λ k a. ChangedHere all flip size k a) p (λ k g a t. record {
-  set = t.0;
-  there = ap (λ ys. is_facet ys t.0) (take_all sets i l) ∙ h t.0 (record { face = t.1.face; part = t.1.part; size = t.2 });
-  side = t.1.side;
-  linked = t.3;
-})
-
 -- ---- what is linked with the sets of all sizes
-
-pub links_start : (s : StarList) (m : Table) (all : List ℕ) (flip : Flip) → Refreshed s m m (λ k a. MeetsBelow 1 k all flip.a flip.b a)
-links_start s m all flip = refreshed_none s m (λ k a. MeetsBelow 1 k all flip.a flip.b a) (λ k a t. absurd (omega (arith, t.meets.some, t.high)))
 
 pub links_next : (s : StarList) (m n o : Table) (all : List ℕ) (flip : Flip) (size other : ℕ) → Refreshed s m n (λ k a. MeetsBelow size k all flip.a flip.b a) → Refreshed s n o (λ k a. ChangedHere all flip other k a) → ((k : Space) → IsStarListOf k s → size + other ≡ k.dim + 2) → Refreshed s m o (λ k a. MeetsBelow (size + 1) k all flip.a flip.b a)
 links_next s m n o all flip size other p q d = refreshed_then s m n o (λ k a. MeetsBelow size k all flip.a flip.b a) (λ k a. ChangedHere all flip other k a) (λ k a. MeetsBelow (size + 1) k all flip.a flip.b a) p q (λ k h a t. elim (cases_lt (length a) size) [
@@ -223,15 +177,9 @@ links_next s m n o all flip size other p q d = refreshed_then s m n o (λ k a. M
   | inr g ↦ inr (t.meets.other, t.meets.changed, omega (arith, g, t.high, t.meets.sizes, d k h), t.meets.linked)
 ])
 
-pub links_end : (s : StarList) (m n : Table) (all : List ℕ) (flip : Flip) (size most : ℕ) → Refreshed s m n (λ k a. MeetsBelow size k all flip.a flip.b a) → most + 1 ≤ size → ((k : Space) → IsStarListOf k s → k.dim ≤ most + most) → Refreshed s m n (λ k a. MeetsChanged k all flip.a flip.b a)
-links_end s m n all flip size most p l h = refreshed_so s m n (λ k a. MeetsBelow size k all flip.a flip.b a) (λ k a. MeetsChanged k all flip.a flip.b a) p (λ k g a t. record { meets = t; high = omega (arith, t.few, h k g, l) })
-
 -- a set that is listed has its size
 pub listed_size : (xs shown : List (List ℕ)) (i : ℕ) (x set : List ℕ) (size : ℕ) → shown ≡ xs → i < length shown → x ≡ get_or shown i x → ((f : List ℕ) → IsTrue (lists xs f) ↔ IsSubset set size f) → 2 ≤ size → 2 ≤ length x
 listed_size xs shown i x set size e l at h big = omega (arith, (((h x).0) (ap (λ ys. lists ys x) (sym e) ∙ listed_at shown i x l at)).size, big)
 
 pub size_left : (s : StarList) (d size end : ℕ) → d ≡ s.dim → size < end + 1 → ((k : Space) → IsStarListOf k s → (end + end ≤ k.dim + 1) × (k.dim ≤ end + end) × (end ≤ 3)) → (k : Space) → IsStarListOf k s → size + (d + 2 - size) ≡ k.dim + 2
 size_left s d size end e l h k i = omega (arith, e, i.dim, l, (h k i).0)
-
-pub size_big : (s : StarList) (d size end : ℕ) → d ≡ s.dim → 1 ≤ size → size < end + 1 → ((k : Space) → IsStarListOf k s → (end + end ≤ k.dim + 1) × (k.dim ≤ end + end) × (end ≤ 3)) → (k : Space) × IsStarListOf k s → 2 ≤ d + 2 - size
-size_big s d size end e low l h k = omega (arith, e, k.1.dim, low, l, (h k.0 k.1).0)

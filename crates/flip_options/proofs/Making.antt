@@ -1,21 +1,19 @@
 -- The options of a complex, made from nothing and after a flip.
-use Rattle.std.proofs.Common.{◌≡◌, ℕ, ◌+◌, ◌-◌, ◌<◌, ◌≤◌, true, nat_eq, List, [], ◌∷◌, length, Option, Some, None, Ok, sym, ◌∙◌, ap, refl, subst, arith, ◌⊎◌, inl, inr}
-use Rattle.std.specs.Prelude.{IsSome, MatchOption}
+use Rattle.std.proofs.Common.{◌≡◌, ℕ, ◌+◌, ◌-◌, ◌<◌, ◌≤◌, true, nat_eq, List, [], ◌∷◌, length, Option, Some, None, sym, ◌∙◌, ap, refl, subst, arith, ◌⊎◌, inl, inr}
+use Rattle.std.specs.Prelude.{MatchOption}
 use Rattle.std.specs.List.{list_all, slice_get}
 use Rattle.std.specs.Map.{lookup}
 use Rattle.std.specs.Ordering.{nat_cmp}
-use Rattle.face_counts.proofs.Parts.{pure_at}
 use Rattle.std.specs.BTreeMap.{get, is_at, IsOrdered}
 use Rattle.std.proofs.lemmas.Option.{none-some, same_Some}
 use Rattle.complex_core.specs.Labels.{has, union}
 use Rattle.complex_core.specs.Spaces.{Space, is_facet}
 use Rattle.complex_core.proofs.Sets.{above_tail}
 use Rattle.complex_core.proofs.Laws.{length-union_apart, or_left, nat_eq_same}
-use Rattle.flip_rules.specs.Flips.{OfFaces, why, flipped, Legal}
+use Rattle.flip_rules.specs.Flips.{flipped, Legal}
 use Rattle.flip_rules.specs.declared.flip.Flip.{Flip}
 use Rattle.flip_rules.proofs.Links.{side, side_holds}
 use Rattle.flip_rules.proofs.Legal.{legal}
-use Rattle.pseudo_test.proofs.Subsets.{clash, not_true}
 use Rattle.stars.specs.StarViews.{StarList, IsStarListOf, places_in}
 use Rattle.descent_laws.specs.Descents.{IsReducing, IsMinimal, IsBest, AreCandidates}
 use Rattle.descent_laws.proofs.Reducing.{two_at_least}
@@ -27,6 +25,9 @@ use Rattle.flip_options.proofs.Refreshing.{refreshed_then}
 use Rattle.flip_options.proofs.Flipping.{linked, flip_right}
 use Rattle.flip_options.proofs.Looking.{PlacedBelow}
 use Rattle.flip_options.proofs.Places.{place_high, place_low}
+use Rattle.std.proofs.lemmas.Bool.{false_from_ne_true}
+use Rattle.complex_core.proofs.SubsetLists.{clash}
+use Rattle.complex_core.proofs.SetLists.{pure_at}
 
 some_first : (f : List ℕ) → 0 < length f → (p : ℕ) × (slice_get f 0 ≡ Some p) × (has f p ≡ true)
 some_first [] n = absurd (omega (arith, n))
@@ -76,7 +77,7 @@ of_made s m n place e r l o k h = record {
 pub step_fits : (k : Space) (o : Option (List Flip)) (s : StarList) (f : Flip) → IsStep k o s f → length (union f.a f.b) ≤ 8
 step_fits k o s f h =
     let l : Legal k f.a f.b = legal k f.a f.b h.legal in
-    omega (arith, length-union_apart f.a f.b (above_tail nat_cmp 0 f.b h.faces.second.rising) (λ z t. not_true (has f.a z) (λ u. clash {P = ⊥} (has f.b z) t (l.shape.apart z u))), l.shape.sizes, h.complex.low)
+    omega (arith, length-union_apart f.a f.b (above_tail nat_cmp 0 f.b h.faces.second.rising) (λ z t. false_from_ne_true (has f.a z) (λ u. clash {P = ⊥} (has f.b z) t (l.shape.apart z u))), l.shape.sizes, h.complex.low)
 
 candidates_of : (k : Space) (o : Option (List Flip)) (flips : List Flip) → AreOptions k o → o ≡ Some flips → AreCandidates k flips
 candidates_of k o flips h e = let P : List Flip → Type 0 = λ fs. AreCandidates k fs in subst P (same_Some h.flips flips (sym h.kept ∙ e)) h.all
@@ -107,11 +108,3 @@ pub first_best : (k : Space) (m : Table) (o : Option (List Flip)) (r : Option Fl
 first_best k m o r e is h = best_of k (flips_of m) r (candidates_of k o (flips_of m) h e) is
 
 -- ---- a step
-
-pub kept_some : (k : Space) (o : Option (List Flip)) → AreOptions k o → IsSome o
-kept_some k o h = let P : Option (List Flip) → Type 0 = λ p. IsSome p in subst P (sym h.kept) refl
-
-pub step_kept : (k : Space) (s t : StarList) (o p : Option (List Flip)) (f : Flip) (l : Space) → IsStarListOf k s → AreOptions k o → OfFaces f → why k f.a f.b ≡ Ok tt → IsStarListOf (flipped k f.a f.b) t → ((m : Space) → IsStep m o t f → AreOptions (flipped m f.a f.b) p) → l ≡ flipped k f.a f.b → IsStarListOf l t × AreOptions l p
-step_kept k s t o p f l h a faces e u v is =
-    let P : Space → Type 0 = λ m. IsStarListOf m t × AreOptions m p in
-    subst P (sym is) (u, v k (record { complex = h.complex; had = a; faces = faces; legal = e; after = u }))

@@ -5,12 +5,12 @@ use Rattle.complex_core.specs.Links.{less}
 use Rattle.complex_core.specs.Spaces.{Space, over}
 use Rattle.flip_rules.specs.Flips.{why, IsNear}
 use Rattle.flip_rules.specs.declared.flip.Illegal.{Illegal}
-use Rattle.pseudo_test.proofs.Subsets.{clash}
 use Rattle.stars.specs.StarViews.{StarList, IsStarListOf}
 use Rattle.descent_laws.specs.Descents.{IsReducing}
 use Rattle.descent_laws.proofs.Reducing.{two_at_least}
 use Rattle.flip_options.specs.Tables.{IsJoin, TooMany, flip_from}
 use Rattle.flip_options.proofs.Joining.{none_fits, join_is, join_size, less_is}
+use Rattle.complex_core.proofs.SubsetLists.{clash}
 
 pub some_label : (n : ℕ) (r : Bool) → r ≡ nat_eq n 0 → r ≡ false → 0 < n
 some_label n r e f = elim (cases_lt 0 n) [ inl p ↦ p | inr p ↦ let z : n ≡ 0 = omega (arith, p) in clash (nat_eq n 0) (eq-eqb n 0 z) (sym e ∙ f) ]

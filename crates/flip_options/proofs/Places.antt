@@ -1,53 +1,34 @@
 -- Labels that a complex uses, and the stars of its places.
-use Rattle.std.proofs.Common.{◌≡◌, ℕ, ◌<◌, ◌≤◌, zero, suc, get_or, true, nat_eq, ◌||◌, ◌&&◌, List, [], ◌∷◌, length, sym, ◌∙◌, ap, refl, subst, arith, inl, inr}
-use Rattle.std.specs.List.{AllByRecursion, flat_map}
+use Rattle.std.proofs.Common.{◌≡◌, ℕ, ◌<◌, ◌≤◌, get_or, true, nat_eq, ◌&&◌, List, [], ◌∷◌, length, sym, ◌∙◌, ap, subst, arith}
 use Rattle.std.specs.List.Sorted.{IsStrictlySortedBy}
 use Rattle.std.specs.Ordering.{nat_cmp}
 use Rattle.std.specs.Cmp.{first_so, second_so}
-use Rattle.std.specs.Cmp.Lexicographic.{pointwise}
-use Rattle.std.proofs.lemmas.Cmp.{nat_cmp_total}
 use Rattle.std.proofs.lemmas.List.Kept.{IsStrictlySortedBy-filter}
-use Rattle.std.proofs.lemmas.List.Folds.{list_any-append}
 use Rattle.complex_core.specs.Labels.{has, holds, face_cmp}
 use Rattle.complex_core.specs.Maps.{used}
 use Rattle.complex_core.specs.Spaces.{Space, IsComplex, over}
-use Rattle.complex_core.proofs.Sets.{above_head, among-rising, sorted_none}
-use Rattle.complex_core.proofs.Faces.{among-has, less_cmp}
+use Rattle.complex_core.proofs.Sets.{above_head, sorted_none}
+use Rattle.complex_core.proofs.Faces.{less_cmp}
 use Rattle.complex_core.proofs.SubsetLists.{above_at}
-use Rattle.complex_core.proofs.Laws.{listed, listed-filter, same_sets_is, same_lists, or_left, or_right, nat_eq_is, nat_eq_same}
-use Rattle.face_counts.proofs.Parts.{pure_at}
-use Rattle.pseudo_test.proofs.Subsets.{two, clash, not_true}
+use Rattle.complex_core.proofs.Laws.{listed, listed-filter, same_lists, or_left, or_right, nat_eq_same}
 use Rattle.star_laws.specs.Stars.{star}
 use Rattle.stars.proofs.Views.{over_star}
-use Rattle.stars.specs.StarViews.{StarList, star_at, places_in, IsStarListOf}
-
-pub used_label : (fs : List (List ℕ)) (f : List ℕ) (x : ℕ) → listed fs f ≡ true → has f x ≡ true → has (used fs) x ≡ true
-used_label fs f x t u = sym (among-has x (used fs)) ∙ among-rising nat_cmp_total x (flat_map (λ g. g) fs) ∙ among-has x (flat_map (λ g. g) fs) ∙ flat fs t
-  where
-    flat : (fs : List (List ℕ)) → listed fs f ≡ true → has (flat_map (λ g. g) fs) x ≡ true
-    flat [] t = clash true refl (sym t)
-    flat (g ∷ gs) t = list_any-append (λ y. nat_eq y x) g (flat_map (λ h. h) gs) ∙ elim (two (pointwise nat_eq g f)) [
-      | inl e ↦ or_left (has g x) (has (flat_map (λ h. h) gs) x) (ap (λ h. has h x) (same_sets_is g f e) ∙ u)
-      | inr e ↦ or_right (has g x) (has (flat_map (λ h. h) gs) x) (flat gs (ap (λ c. c || listed gs f) (sym e) ∙ t))
-    ]
-
-label_within : (n : ℕ) (xs : List ℕ) (x : ℕ) → AllByRecursion (λ y. y ≤ n) xs → has xs x ≡ true → x ≤ n
-label_within n [] x a t = clash true refl (sym t)
-label_within n (y ∷ ys) x a t = elim (two (nat_eq y x)) [
-  | inl e ↦ let p : y ≡ x = nat_eq_is y x e in omega (arith, p, a.0)
-  | inr e ↦ label_within n ys x a.1 (ap (λ c. c || has ys x) (sym e) ∙ t)
-]
+use Rattle.stars.specs.StarViews.{StarList, places_in, IsStarListOf}
+use Rattle.std.proofs.lemmas.Bool.{false_from_ne_true}
+use Rattle.complex_core.proofs.Members.{has_place}
+use Rattle.complex_core.proofs.SetLists.{pure_at, used_label}
+use Rattle.stars.proofs.Mapping.{has_bound}
 
 -- each label of a facet is a place
 pub place_high : (k : Space) (m : StarList) (f : List ℕ) (x : ℕ) → IsStarListOf k m → listed k.facets f ≡ true → has f x ≡ true → x ≤ places_in m
-place_high k m f x h t u = label_within (places_in m) (used k.facets) x h.within (used_label k.facets f x t u)
+place_high k m f x h t u = has_bound (places_in m) (used k.facets) x h.within (used_label k.facets f x t u)
 
 pub place_low : (k : Space) (f : List ℕ) (x : ℕ) → IsComplex k → listed k.facets f ≡ true → has f x ≡ true → 0 < x
 place_low k f x h t u = less_cmp 0 x (above_at 0 x f (above_head nat_cmp 0 f (pure_at k.dim k.facets f h.pure t).face.rising) u)
 
 no_star : (fs : List (List ℕ)) (x : ℕ) → IsStrictlySortedBy face_cmp fs → ((f : List ℕ) → listed fs f ≡ true → has f x ≡ true → ⊥) → [] ≡ star fs x
 no_star fs x s none = same_lists [] (star fs x) (sorted_none face_cmp) (IsStrictlySortedBy-filter face_cmp (λ f. holds f (x ∷ [])) fs s) (λ f.
-    sym (listed-filter (λ g. holds g (x ∷ [])) fs f ∙ not_true (listed fs f && holds f (x ∷ [])) (λ t. none f (first_so (listed fs f) (holds f (x ∷ [])) t) (first_so (has f x) true (second_so (listed fs f) (holds f (x ∷ [])) t)))))
+    sym (listed-filter (λ g. holds g (x ∷ [])) fs f ∙ false_from_ne_true (listed fs f && holds f (x ∷ [])) (λ t. none f (first_so (listed fs f) (holds f (x ∷ [])) t) (first_so (has f x) true (second_so (listed fs f) (holds f (x ∷ [])) t)))))
 
 pub star_zero : (k : Space) (m : StarList) (x : ℕ) → x ≡ 0 → IsStarListOf k m → [] ≡ star k.facets x
 star_zero k m x e h = no_star k.facets x h.complex.rising (λ f t u. absurd (omega (arith, place_low k f x h.complex t u, e)))
@@ -61,10 +42,6 @@ none_rises = sorted_none face_cmp
 pub star_past : (k : Space) (m : StarList) (x n : ℕ) → n ≡ places_in m → n < x → IsStarListOf k m → [] ≡ star k.facets x
 star_past k m x n e l h = star_above k m x (omega (arith, e, l)) h
 
--- the rows of a place
-pub star_here : (k : Space) (m : StarList) (x n : ℕ) (rows : List (List ℕ)) → n ≡ places_in m → (x ≡ 0 → ⊥) → x ≤ n → rows ≡ star_at m x → IsStarListOf k m → rows ≡ star k.facets x
-star_here k m x n rows e l u is h = is ∙ h.stars x (omega (arith, l)) (omega (arith, e, u))
-
 -- rows that are all there near a set
 abbrev pub NearSoFar : StarList → List ℕ → List (List ℕ) → Type 0
 NearSoFar m set rows = IsStrictlySortedBy face_cmp rows × ((k : Space) → IsStarListOf k m → over rows set ≡ over k.facets set)
@@ -74,11 +51,6 @@ near_label m set x rows t s h = (s, λ k i. ap (λ fs. over fs set) (h k i) ∙ 
 
 pub near_first : (m : StarList) (set labels others : List ℕ) (x : ℕ) (rows : List (List ℕ)) → labels ≡ set → labels ≡ x ∷ others → IsStrictlySortedBy face_cmp rows → ((k : Space) → IsStarListOf k m → rows ≡ star k.facets x) → NearSoFar m set rows
 near_first m set labels others x rows e p s h = near_label m set x rows (ap (λ xs. has xs x) (sym e ∙ p) ∙ or_left (nat_eq x x) (has others x) (nat_eq_same x)) s h
-
-has_place : (xs : List ℕ) (i : ℕ) → i < length xs → has xs (get_or xs i 0) ≡ true
-has_place [] i l = absurd (omega (arith, l))
-has_place (x ∷ xs) zero l = or_left (nat_eq x x) (has xs x) (nat_eq_same x)
-has_place (x ∷ xs) (suc i) l = or_right (nat_eq x (get_or xs i 0)) (has xs (get_or xs i 0)) (has_place xs i (omega (arith, l)))
 
 pub near_other : (m : StarList) (set labels others : List ℕ) (x i : ℕ) (rows now : List (List ℕ)) → labels ≡ set → labels ≡ x ∷ others → i < length others → IsStrictlySortedBy face_cmp rows → ((k : Space) → IsStarListOf k m → rows ≡ star k.facets (get_or others i 0)) → now ≡ rows → NearSoFar m set now
 near_other m set labels others x i rows now e p l s h same =

@@ -12,18 +12,14 @@ use Rattle.complex_core.specs.Spaces.{Space}
 use Rattle.complex_core.proofs.Laws.{nat_eq_same}
 use Rattle.flip_rules.specs.declared.flip.Flip.{Flip}
 use Rattle.stars.specs.StarViews.{StarList, IsStarListOf}
-use Rattle.pseudo_test.proofs.Subsets.{two}
 use Rattle.descent_laws.specs.Descents.{IsReducing}
 use Rattle.descent_laws.proofs.Reducing.{first_determines}
 use Rattle.flip_options.specs.Tables.{Table, key_cmp, key_of, flip_from, is_sized, Decides, IsRight, Refreshed}
 use Rattle.flip_options.proofs.Keys.{tied_key, same_key}
+use Rattle.complex_core.proofs.SubsetLists.{two}
 
 right_moved : (k : Space) (m n : Table) (a : List ℕ) → IsRight k m a → get key_cmp n (key_of a) ≡ get key_cmp m (key_of a) → IsRight k n a
 right_moved k m n a r e = record { sound = λ b g. r.sound b (sym e ∙ g); complete = λ b g. e ∙ r.complete b g }
-
--- nothing is done yet
-pub refreshed_none : (s : StarList) (m : Table) (P : Space → List ℕ → Type 0) → ((k : Space) (a : List ℕ) → P k a → ⊥) → Refreshed s m m P
-refreshed_none s m P none = record { sized = λ t. t; each = λ k h a. inl refl; done = λ k h a p. absurd (none k a p) }
 
 -- one look after another
 pub refreshed_then : (s : StarList) (m n o : Table) (P Q R : Space → List ℕ → Type 0) → Refreshed s m n P → Refreshed s n o Q → ((k : Space) → IsStarListOf k s → (a : List ℕ) → R k a → P k a ⊎ Q k a) → Refreshed s m o R

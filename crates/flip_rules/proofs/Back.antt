@@ -26,7 +26,7 @@ listed_lacks a b f apart t =
     and_false true = refl
     and_false false = refl
 
-first_label : (a : List ℕ) → (length a ≢ 0) → (x : ℕ) × (has a x ≡ true)
+pub first_label : (a : List ℕ) → (length a ≢ 0) → (x : ℕ) × (has a x ≡ true)
 first_label [] n = absurd (n (omega arith))
 first_label (x ∷ xs) n = (x, or_left (nat_eq x x) (has xs x) (nat_eq_same x))
 

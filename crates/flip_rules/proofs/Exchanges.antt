@@ -1,5 +1,5 @@
 -- A replay is one exchange of facets.
-use Rattle.std.proofs.Common.{◌≡◌, ◌<◌, ℕ, Bool, true, false, not, cond, filter, ◌||◌, ◌&&◌, List, [], ◌∷◌, ◌++◌, length, Ok, Some, sym, ◌∙◌, ap, refl, subst, append_assoc, length-append, arith}
+use Rattle.std.proofs.Common.{◌≡◌, ◌<◌, ℕ, Bool, true, false, not, ◌||◌, ◌&&◌, List, [], ◌∷◌, ◌++◌, length, Ok, Some, sym, ◌∙◌, ap, refl, subst, append_assoc, length-append, arith}
 use Rattle.std.specs.List.{AllByRecursion}
 use Rattle.std.specs.List.Sorted.{IsStrictlySortedBy}
 use Rattle.std.specs.Cmp.Lexicographic.{nat_list_cmp_total}
@@ -17,6 +17,7 @@ use Rattle.flip_rules.specs.declared.flip.Flip.{Flip}
 use Rattle.flip_rules.proofs.Legal.{legal, can_put}
 use Rattle.flip_rules.proofs.Links.{listed-flipped}
 use Rattle.flip_rules.proofs.Replays.{first_flip, complex_flipped}
+use Rattle.complex_core.proofs.Sorting.{each_append, each_filter}
 
 -- the second complex is the first one with some facets taken out and others put in
 pub record IsExchange (k : Space) (out more : List (List ℕ)) (l : Space) : Type 0 where
@@ -92,30 +93,7 @@ replay_is_exchange k m fs h r = exchange_is k m (taken_out fs) (put_in fs) (exch
 
 -- ---- the lists grow with the flips
 
-pub taken_out-append : (fs gs : List Flip) → taken_out (fs ++ gs) ≡ taken_out fs ++ taken_out gs
-taken_out-append [] gs = refl
-taken_out-append (f ∷ fs) gs = ap (λ t. sides f.a f.b ++ t) (taken_out-append fs gs) ∙ sym (append_assoc (sides f.a f.b) (taken_out fs) (taken_out gs))
-
-pub put_in_after-append : (more : List (List ℕ)) (fs gs : List Flip) → put_in_after more (fs ++ gs) ≡ put_in_after (put_in_after more fs) gs
-put_in_after-append more [] gs = refl
-put_in_after-append more (f ∷ fs) gs = put_in_after-append (staying more (sides f.a f.b) ++ sides f.b f.a) fs gs
-
--- one flip more takes out its own sides, and puts in the others
-pub taken_out_then : (fs : List Flip) (f : Flip) → taken_out (fs ++ f ∷ []) ≡ taken_out fs ++ sides f.a f.b
-taken_out_then fs f = taken_out-append fs (f ∷ []) ∙ ap (λ t. taken_out fs ++ t) (append-nil (sides f.a f.b))
-
-pub put_in_then : (fs : List Flip) (f : Flip) → put_in (fs ++ f ∷ []) ≡ staying (put_in fs) (sides f.a f.b) ++ sides f.b f.a
-put_in_then fs f = put_in_after-append [] fs (f ∷ [])
-
 -- ---- what is put in are facets
-
-each_append : (P : List ℕ → Type 0) (xs ys : List (List ℕ)) → AllByRecursion P xs → AllByRecursion P ys → AllByRecursion P (xs ++ ys)
-each_append P [] ys h g = g
-each_append P (x ∷ xs) ys h g = (h.0, each_append P xs ys h.1 g)
-
-each_filter : (P : List ℕ → Type 0) (p : List ℕ → Bool) (xs : List (List ℕ)) → AllByRecursion P xs → AllByRecursion P (filter p xs)
-each_filter P p [] h = tt
-each_filter P p (x ∷ xs) h = elim (p x) as (λ b. AllByRecursion P (cond b (x ∷ filter p xs) (filter p xs))) [ true ↦ (h.0, each_filter P p xs h.1) | false ↦ each_filter P p xs h.1 ]
 
 pure_after : (k m : Space) (more : List (List ℕ)) (fs : List Flip) → IsComplex k → AllByRecursion (IsFacet k.dim) more → AllByRecursion OfFaces fs → replay k fs ≡ Some m → AllByRecursion (IsFacet k.dim) (put_in_after more fs)
 pure_after k m more [] h pure faces r = pure

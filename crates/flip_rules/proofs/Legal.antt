@@ -11,10 +11,7 @@ use Rattle.flip_rules.specs.Flips.{Shaped, Legal, sides, has_shape, link_is, why
 use Rattle.flip_rules.specs.declared.flip.Illegal.{Illegal}
 use Rattle.flip_rules.specs.declared.flip.Illegal.TheVariants.{Shape, NotAFace, LinkDiffers, BIsFace}
 use Rattle.flip_rules.proofs.Links.{same_lists_is, same_lists_from}
-
-not_true : (b : Bool) → not b ≡ true → b ≡ false
-not_true true h = sym h
-not_true false h = refl
+use Rattle.std.proofs.lemmas.Bool.{not-true}
 
 false_not : (b : Bool) → b ≡ false → not b ≡ true
 false_not b h = ap not h
@@ -44,9 +41,9 @@ shaped d a b h =
     let h3 = first_so (not (list_any (λ x. has b x) a)) _ t2 in
     let h4 = second_so (not (list_any (λ x. has b x) a)) _ t2 in
     record {
-      first = λ e. let f : true ≡ false = sym (eq-eqb (length a) 0 e) ∙ not_true (nat_eq (length a) 0) h1 in cc;
-      second = λ e. let f : true ≡ false = sym (eq-eqb (length b) 0 e) ∙ not_true (nat_eq (length b) 0) h2 in cc;
-      apart = λ z t. none_has (λ x. has b x) a (not_true (list_any (λ x. has b x) a) h3) z t;
+      first = λ e. let f : true ≡ false = sym (eq-eqb (length a) 0 e) ∙ not-true (nat_eq (length a) 0) h1 in cc;
+      second = λ e. let f : true ≡ false = sym (eq-eqb (length b) 0 e) ∙ not-true (nat_eq (length b) 0) h2 in cc;
+      apart = λ z t. none_has (λ x. has b x) a (not-true (list_any (λ x. has b x) a) h3) z t;
       sizes = nat_eq_is (length a + length b) (d + 2) h4;
     }
 

@@ -5,6 +5,7 @@ use Rattle.complex_core.specs.Rising.{rising}
 use Rattle.complex_core.specs.Spaces.{Space, over, is_held}
 use Rattle.flip_rules.specs.Flips.{sides, has_shape, same_sets, why, why_near, IsNear}
 use Rattle.flip_rules.proofs.Legal.{verdict}
+use Rattle.complex_core.proofs.Runs.{held_alike}
 
 -- a set is held where it is held by the facets that contain it
 held_over : (fs : List (List ℕ)) (a : List ℕ) → is_held (over fs a) a ≡ is_held fs a
@@ -15,11 +16,8 @@ held_over (f ∷ fs) a =
       | false ↦ λ _. held_over fs a
     ] refl
 
-pub held_near : (near fs : List (List ℕ)) (a : List ℕ) → over near a ≡ over fs a → is_held near a ≡ is_held fs a
-held_near near fs a e = sym (held_over near a) ∙ ap (λ gs. is_held gs a) e ∙ held_over fs a
-
 -- what the lists near A and B tell is true of the complex
 pub why_seen : (k : Space) (d : ℕ) (near_a near_b : List (List ℕ)) (a b : List ℕ) → IsNear k d near_a near_b a b → why_near d near_a near_b a b ≡ why k a b
 why_seen k d near_a near_b a b h =
     sym (ap (λ n. why_near n near_a near_b a b) h.dim)
-    ∙ (λ i. verdict (has_shape k.dim a b) (held_near near_a k.facets a h.first i) (same_sets (h.first i) (rising face_cmp (sides a b))) (held_near near_b k.facets b h.second i))
+    ∙ (λ i. verdict (has_shape k.dim a b) (held_alike near_a k.facets a h.first i) (same_sets (h.first i) (rising face_cmp (sides a b))) (held_alike near_b k.facets b h.second i))

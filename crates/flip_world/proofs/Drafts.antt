@@ -1,5 +1,5 @@
 -- A list of flips is one exchange of facets.
-use Rattle.std.proofs.Common.{◌≡◌, ℕ, ◌<◌, Bool, true, false, not, cond, filter, ◌||◌, ◌&&◌, List, [], ◌∷◌, ◌++◌, length, Ok, Err, Some, None, IsSome, sym, ◌∙◌, ap, refl, subst, arith, length-append}
+use Rattle.std.proofs.Common.{◌≡◌, ℕ, ◌<◌, Bool, true, false, not, ◌||◌, ◌&&◌, List, [], ◌∷◌, ◌++◌, length, Ok, Err, Some, None, IsSome, sym, ◌∙◌, ap, refl, subst, arith, length-append}
 use Rattle.std.specs.List.{AllByRecursion}
 use Rattle.std.specs.List.Sorted.{IsStrictlySortedBy}
 use Rattle.std.specs.Cmp.Lexicographic.{nat_list_cmp_total}
@@ -15,11 +15,9 @@ use Rattle.flip_rules.proofs.Legal.{legal, can_put}
 use Rattle.flip_rules.proofs.Links.{staying_sides}
 use Rattle.flip_world.specs.Drafts.{Exchanges, IsDraft, SeenOver}
 use Rattle.flip_world.specs.Cores.{after}
-use Rattle.flip_world.proofs.Replays.{replay_end}
+use Rattle.flip_world.proofs.Replays.{replay_end, some_same}
 use Rattle.flip_rules.proofs.Replays.{replay_dim, complex_flipped}
-
-some_same : (k m : Space) → Some k ≡ Some m → k ≡ m
-some_same k m e = cc
+use Rattle.complex_core.proofs.Sorting.{each_append, each_filter}
 
 -- the last of some flips, made where the ones before it end
 pub record LastFlip (k m : Space) (fs : List Flip) (f : Flip) : Type 0 where
@@ -49,14 +47,6 @@ last_flip k m (g ∷ gs) f e =
     none_some m f = cc
 
 -- ---- facts of each set of a list
-
-each_filter : {K : Type 0} (P : K → Type 0) (p : K → Bool) (xs : List K) → AllByRecursion P xs → AllByRecursion P (filter p xs)
-each_filter P p [] h = tt
-each_filter P p (x ∷ xs) h = elim (p x) as (λ b. AllByRecursion P (cond b (x ∷ filter p xs) (filter p xs))) [ true ↦ (h.0, each_filter P p xs h.1) | false ↦ each_filter P p xs h.1 ]
-
-each_append : {K : Type 0} (P : K → Type 0) (xs ys : List K) → AllByRecursion P xs → AllByRecursion P ys → AllByRecursion P (xs ++ ys)
-each_append P [] ys h g = g
-each_append P (x ∷ xs) ys h g = (h.0, each_append P xs ys h.1 g)
 
 -- ---- the exchange
 

@@ -1,8 +1,7 @@
 -- An event has one answer, and leads to one core.
 use Rattle.std.proofs.Common.{◌≡◌, ◌≢◌, ℕ, ◌<◌, ◌≤◌, Bool, true, false, nat_eq, nat_le, ◌||◌, ◌⊎◌, inl, inr, List, [], ◌∷◌, ◌++◌, map, length, Result, Ok, Err, sym, ◌∙◌, ap, refl, subst, arith, eq-eqb}
-use Rattle.std.proofs.lemmas.Bool.{true≢false}
+use Rattle.std.proofs.lemmas.Bool.{true≢false, ne_eqb, le-leb}
 use Rattle.std.proofs.lemmas.Bool.Decides.{nat_tests}
-use Rattle.complex_core.proofs.Laws.{nat_eq_is}
 use Rattle.flip_rules.specs.Flips.{why}
 use Rattle.flip_rules.specs.declared.flip.Flip.{Flip}
 use Rattle.flip_rules.specs.declared.flip.Illegal.{Illegal}
@@ -23,12 +22,6 @@ abbrev Outcome : Type 0
 Outcome = Result Told Refused × Core
 
 -- ---- tests
-
-differ : (n m : ℕ) → (n ≢ m) → nat_eq n m ≡ false
-differ n m h = elim (nat_eq n m) as (λ b. nat_eq n m ≡ b → b ≡ false) [ true ↦ λ e. absurd (h (nat_eq_is n m e)) | false ↦ λ _. refl ] refl
-
-within : (n m : ℕ) → n ≤ m → nat_le n m ≡ true
-within n m h = grind (arith, nat_tests)
 
 beyond : (n m : ℕ) → m < n → nat_le n m ≡ false
 beyond n m h = grind (arith, nat_tests)
@@ -58,12 +51,12 @@ claim_outcome c worker place = claim_by (nat_le place (places_of c)) (nat_eq (ow
 
 claim_told : (c next : Core) (worker place : ℕ) (told : Told) → IsWorker c worker → ClaimTold c worker place told next → (Ok told, next) ≡ claim_outcome c worker place
 claim_told c next worker place Claimed v h =
-    let there : nat_le place (places_of c) ≡ true = within place (places_of c) h.0 in
+    let there : nat_le place (places_of c) ≡ true = le-leb place (places_of c) h.0 in
     let free : nat_eq (owner_of c place) 0 ≡ true = eq-eqb (owner_of c place) 0 h.1 in
-    let mine : nat_eq (owner_of c place) worker ≡ false = differ (owner_of c place) worker (λ e. omega (arith, v.low, h.1, e)) in
+    let mine : nat_eq (owner_of c place) worker ≡ false = ne_eqb (owner_of c place) worker (λ e. omega (arith, v.low, h.1, e)) in
     (λ i. (Ok Claimed, h.2 i)) ∙ sym (λ i. claim_by (there i) (mine i) (free i) c worker place)
 claim_told c next worker place AlreadyHeld v h =
-    let there : nat_le place (places_of c) ≡ true = within place (places_of c) h.0 in
+    let there : nat_le place (places_of c) ≡ true = le-leb place (places_of c) h.0 in
     let mine : nat_eq (owner_of c place) worker ≡ true = eq-eqb (owner_of c place) worker h.1 in
     (λ i. (Ok AlreadyHeld, h.2 i)) ∙ sym (λ i. claim_by (there i) (mine i) (nat_eq (owner_of c place) 0) c worker place)
 claim_told c next worker place Flipped v h = absurd h
@@ -76,9 +69,9 @@ claim_refused c worker place (refused.NoPlace p) h =
     let there : nat_le place (places_of c) ≡ false = beyond place (places_of c) h.1 in
     (λ i. (Err (refused.NoPlace (h.0 i)), c)) ∙ sym (λ i. claim_by (there i) (nat_eq (owner_of c place) worker) (nat_eq (owner_of c place) 0) c worker place)
 claim_refused c worker place (refused.Busy p owner) h =
-    let there : nat_le place (places_of c) ≡ true = within place (places_of c) h.1 in
-    let mine : nat_eq (owner_of c place) worker ≡ false = differ (owner_of c place) worker (λ e. h.4 (h.2 ∙ e)) in
-    let free : nat_eq (owner_of c place) 0 ≡ false = differ (owner_of c place) 0 (λ e. h.3 (h.2 ∙ e)) in
+    let there : nat_le place (places_of c) ≡ true = le-leb place (places_of c) h.1 in
+    let mine : nat_eq (owner_of c place) worker ≡ false = ne_eqb (owner_of c place) worker (λ e. h.4 (h.2 ∙ e)) in
+    let free : nat_eq (owner_of c place) 0 ≡ false = ne_eqb (owner_of c place) 0 (λ e. h.3 (h.2 ∙ e)) in
     (λ i. (Err (refused.Busy (h.0 i) (h.2 i)), c)) ∙ sym (λ i. claim_by (there i) (mine i) (free i) c worker place)
 claim_refused c worker place refused.NoWorker h = absurd h
 claim_refused c worker place (refused.NotHeld p) h = absurd h
@@ -186,7 +179,7 @@ commit_told c next worker Released h = absurd h
 
 commit_refused : (c : Core) (worker : ℕ) (reason : Refused) → CommitRefused c worker reason → (Err reason, c) ≡ commit_outcome c worker
 commit_refused c worker (refused.NotHeld p) h =
-    let mine : nat_eq (owner_of c 0) worker ≡ false = differ (owner_of c 0) worker h.1 in
+    let mine : nat_eq (owner_of c 0) worker ≡ false = ne_eqb (owner_of c 0) worker h.1 in
     (λ i. (Err (refused.NotHeld (h.0 i)), c)) ∙ sym (λ i. commit_by (mine i) (none (pending_of c worker)) c worker)
 commit_refused c worker refused.NoFlips h =
     let mine : nat_eq (owner_of c 0) worker ≡ true = eq-eqb (owner_of c 0) worker h.0 in
@@ -215,12 +208,12 @@ release_outcome c worker place = release_by (nat_le place (places_of c)) (nat_eq
 released : (c : Core) (worker place : ℕ) → (place ≢ 0 → pending_of c worker ≡ []) → may_release c worker place ≡ true
 released c worker place h = elim (same_or_not place 0) [
   | inl e ↦ λ i. eq-eqb place 0 e i || none (pending_of c worker)
-  | inr n ↦ λ i. differ place 0 n i || none (h n i)
+  | inr n ↦ λ i. ne_eqb place 0 n i || none (h n i)
 ]
 
 release_told : (c next : Core) (worker place : ℕ) (told : Told) → ReleaseTold c worker place told next → (Ok told, next) ≡ release_outcome c worker place
 release_told c next worker place Released h =
-    let there : nat_le place (places_of c) ≡ true = within place (places_of c) h.0 in
+    let there : nat_le place (places_of c) ≡ true = le-leb place (places_of c) h.0 in
     let mine : nat_eq (owner_of c place) worker ≡ true = eq-eqb (owner_of c place) worker h.1 in
     let may : may_release c worker place ≡ true = released c worker place h.2 in
     (λ i. (Ok Released, h.3 i)) ∙ sym (λ i. release_by (there i) (mine i) (may i) c worker place)
@@ -235,13 +228,13 @@ release_refused c worker place (refused.NoPlace p) h =
     let there : nat_le place (places_of c) ≡ false = beyond place (places_of c) h.1 in
     (λ i. (Err (refused.NoPlace (h.0 i)), c)) ∙ sym (λ i. release_by (there i) (nat_eq (owner_of c place) worker) (may_release c worker place) c worker place)
 release_refused c worker place (refused.NotHeld p) h =
-    let there : nat_le place (places_of c) ≡ true = within place (places_of c) h.1 in
-    let mine : nat_eq (owner_of c place) worker ≡ false = differ (owner_of c place) worker h.2 in
+    let there : nat_le place (places_of c) ≡ true = le-leb place (places_of c) h.1 in
+    let mine : nat_eq (owner_of c place) worker ≡ false = ne_eqb (owner_of c place) worker h.2 in
     (λ i. (Err (refused.NotHeld (h.0 i)), c)) ∙ sym (λ i. release_by (there i) (mine i) (may_release c worker place) c worker place)
 release_refused c worker place (refused.Pending n) h =
-    let there : nat_le place (places_of c) ≡ true = within place (places_of c) h.0 in
+    let there : nat_le place (places_of c) ≡ true = le-leb place (places_of c) h.0 in
     let mine : nat_eq (owner_of c place) worker ≡ true = eq-eqb (owner_of c place) worker h.1 in
-    let may : may_release c worker place ≡ false = λ i. differ place 0 h.2 i || counted (pending_of c worker) n h.3 h.4 i in
+    let may : may_release c worker place ≡ false = λ i. ne_eqb place 0 h.2 i || counted (pending_of c worker) n h.3 h.4 i in
     (λ i. (Err (refused.Pending (h.3 i)), c)) ∙ sym (λ i. release_by (there i) (mine i) (may i) c worker place)
 release_refused c worker place refused.NoWorker h = absurd h
 release_refused c worker place (refused.Busy p owner) h = absurd h

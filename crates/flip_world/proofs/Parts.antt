@@ -1,5 +1,5 @@
 -- The parts of a world after a step.
-use Rattle.std.proofs.Common.{◌≡◌, ◌≢◌, ℕ, ◌+◌, ◌-◌, ◌^◌, ◌<◌, ◌≤◌, Bool, true, false, cond, filter, nat_eq, List, [], ◌∷◌, ◌++◌, length, get_or, set, Ok, Err, sym, ◌∙◌, ap, refl, subst, arith, length-append, eq-eqb}
+use Rattle.std.proofs.Common.{◌≡◌, ℕ, ◌+◌, ◌-◌, ◌^◌, ◌<◌, ◌≤◌, Bool, true, false, cond, filter, nat_eq, List, [], ◌∷◌, ◌++◌, length, get_or, set, Ok, sym, ◌∙◌, ap, refl, subst, arith, length-append, eq-eqb}
 use Rattle.std.proofs.lemmas.Bool.{true≢false}
 use Rattle.std.proofs.lemmas.List.{get_or_default, append-nil, length-set, get_or-set_same, get_or-set_other}
 use Rattle.std.proofs.lemmas.List.Elements.{filter-append}
@@ -9,14 +9,11 @@ use Rattle.complex_core.proofs.Laws.{nat_eq_is}
 use Rattle.flip_rules.specs.Flips.{why}
 use Rattle.flip_rules.specs.Entries.{JournalEntry}
 use Rattle.flip_rules.specs.declared.flip.Flip.{Flip}
-use Rattle.flip_rules.specs.declared.flip.Illegal.{Illegal}
-use Rattle.flip_rules.specs.declared.flip.Illegal.TheVariants.{Shape, NotAFace, LinkDiffers, BIsFace}
-use Rattle.flip_world.specs.declared.event.Refused.TheVariants as refused
-use Rattle.flip_world.specs.Cores.{Core, IsWorker, after, workers_of, owner_of, pending_of, with_owner, with_pending, seen_by, of_worker}
-use Rattle.flip_world.specs.Steps.{FlipHeld, FlipRefused, next_entry, committed}
+use Rattle.flip_world.specs.Cores.{Core, IsWorker, after, workers_of, pending_of, with_owner, with_pending, seen_by, of_worker}
+use Rattle.flip_world.specs.Steps.{FlipHeld, next_entry, committed}
 use Rattle.flip_world.specs.Serials.{Serial}
 use Rattle.flip_world.specs.Worlds.{IsWorld}
-use Rattle.flip_world.proofs.Rows.{claim_keeps, release_keeps, rollback_keeps, flip_keeps, commit_keeps, commit_complex, same_worker}
+use Rattle.flip_world.proofs.Rows.{flip_keeps, commit_keeps, commit_complex, same_worker}
 
 -- the owner of one place changes
 other_owner : (c : Core) (k : Space) (written : List ℕ) (place owner : ℕ) → IsWorld c k written → Serial (with_owner c place owner) → IsWorld (with_owner c place owner) k written
@@ -43,17 +40,6 @@ other_pending c k written worker flips w s = record {
 abbrev Of : Space → List ℕ → Core → Type 0
 Of k written c = IsWorld c k written
 
-pub claim_world : (c : Core) (k : Space) (written : List ℕ) (place worker : ℕ) → IsWorld c k written → owner_of c place ≡ 0 → IsWorld (with_owner c place worker) k written
-claim_world c k written place worker w free = other_owner c k written place worker w (claim_keeps c worker place w.serial free)
-
-pub release_world : (c : Core) (k : Space) (written : List ℕ) (place worker : ℕ) → IsWorld c k written → owner_of c place ≡ worker → (place ≢ 0 → pending_of c worker ≡ []) → IsWorld (with_owner c place 0) k written
-release_world c k written place worker w owner none = other_owner c k written place 0 w (release_keeps c worker place w.serial owner none)
-
-pub rollback_world : (c : Core) (k : Space) (written : List ℕ) (worker : ℕ) (flips : List Flip) → IsWorld c k written → IsWorker c worker → flips ≡ [] → IsWorld (with_pending c worker flips) k written
-rollback_world c k written worker flips w v e =
-    let P : List Flip → Type 0 = λ fs. IsWorld (with_pending c worker fs) k written in
-    subst P (sym e) (other_pending c k written worker [] w (rollback_keeps c worker w.serial v))
-
 -- what lets a worker make a flip
 pub record MayFlip (c : Core) (worker : ℕ) (f : Flip) : Type 0 where
   pub worker_is : IsWorker c worker
@@ -69,13 +55,6 @@ flip_parts c d k written worker f flips same w m e =
     let g : flips ≡ pending_of c worker ++ f ∷ [] = e ∙ ap (λ (x : Core). pending_of x worker ++ f ∷ []) (sym same) in
     let Q : List Flip → Type 0 = λ fs. IsWorld (with_pending c worker fs) k written in
     subst Q (sym g) (other_pending c k written worker (pending_of c worker ++ f ∷ []) w (flip_keeps c worker f w.serial may.worker_is may.first may.second may.held.fits.places may.held.owned may.legal))
-
--- why a flip that stands on the worker's places isn't made
-pub illegal_refused : (c : Core) (worker : ℕ) (f : Flip) (e : Illegal) → FlipHeld c worker f → why (seen_by c worker) f.a f.b ≡ Err e → FlipRefused c worker f (refused.Illegal e)
-illegal_refused c worker f Shape h e = (h.fits.places, e)
-illegal_refused c worker f NotAFace h e = (h, e)
-illegal_refused c worker f LinkDiffers h e = (h, e)
-illegal_refused c worker f BIsFace h e = (h, e)
 
 -- ---- a commit
 

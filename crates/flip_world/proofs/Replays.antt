@@ -13,7 +13,7 @@ use Rattle.star_laws.proofs.FlipStars.{rises_flipped}
 use Rattle.flip_rules.proofs.Replays.{first_flip}
 use Rattle.flip_world.specs.Cores.{after}
 
-some_same : (k m : Space) → Some k ≡ Some m → k ≡ m
+pub some_same : (k m : Space) → Some k ≡ Some m → k ≡ m
 some_same k m e = cc
 
 -- a replay that comes to an end comes to that one

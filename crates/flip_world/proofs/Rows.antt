@@ -4,11 +4,8 @@ use Rattle.std.proofs.lemmas.Bool.{true≢false}
 use Rattle.std.proofs.lemmas.Bool.Decides.{nat_tests}
 use Rattle.std.proofs.lemmas.List.{append-nil, length-set, get_or-set_same, get_or-set_other}
 use Rattle.std.proofs.lemmas.List.Elements.{filter-append}
-use Rattle.std.specs.Ordering.{nat_cmp}
 use Rattle.complex_core.specs.Labels.{has, IsFace}
 use Rattle.complex_core.specs.Spaces.{Space}
-use Rattle.complex_core.proofs.Sets.{Above, above_head}
-use Rattle.complex_core.proofs.Faces.{less_cmp}
 use Rattle.complex_core.proofs.Laws.{nat_eq_is}
 use Rattle.flip_rules.specs.Flips.{why, replay}
 use Rattle.flip_rules.specs.Entries.{JournalEntry}
@@ -21,6 +18,7 @@ use Rattle.flip_world.specs.Steps.{EachLabel, is_place, is_owned, next_entry, co
 use Rattle.flip_world.specs.Serials.{Serial, OwnsLabel, numbers_from}
 use Rattle.flip_world.proofs.Replays.{replay_end, some_replay, after_is, flat_push, touch-append, rises_replay, other_end}
 use Rattle.flip_rules.proofs.Replays.{replay-append, replay_then, replay_dim}
+use Rattle.complex_core.proofs.Members.{label_low}
 
 -- ---- places and workers
 
@@ -107,18 +105,6 @@ other_pending c worker flips s v end own = record {
 pub rollback_keeps : (c : Core) (worker : ℕ) → Serial c → IsWorker c worker → Serial (with_pending c worker [])
 rollback_keeps c worker s v = other_pending c worker [] s v refl (λ place t. absurd (true≢false (sym t)))
 
--- labels are at least 1
-label_low : (xs : List ℕ) (p : ℕ) → IsFace xs → has xs p ≡ true → 0 < p
-label_low xs p h t = above_low xs p (above_head nat_cmp 0 xs h.rising) t
-  where
-    above_low : (xs : List ℕ) (p : ℕ) → Above nat_cmp 0 xs → has xs p ≡ true → 0 < p
-    above_low [] p a t = absurd (true≢false (sym t))
-    above_low (x ∷ xs) p a t =
-        elim (nat_eq x p) as (λ b. nat_eq x p ≡ b → (b || has xs p) ≡ true → 0 < p) [
-          | true ↦ λ e _. let f : x ≡ p = nat_eq_is x p e in omega (arith, less_cmp 0 x a.0, f)
-          | false ↦ λ _ g. above_low xs p a.1 g
-        ] refl t
-
 label_of_flip : (f : Flip) (p : ℕ) → IsFace f.a → IsFace f.b → flip_touches p f ≡ true → 0 < p
 label_of_flip f p fa fb t =
     elim (has f.a p) as (λ b. has f.a p ≡ b → (b || has f.b p) ≡ true → 0 < p) [
@@ -145,7 +131,7 @@ flip_keeps c worker f s v fa fb places owned legal = other_pending c worker (pen
 -- ---- a commit
 
 -- the entries are numbered from some number
-numbers_push : (n : ℕ) (es : List JournalEntry) (e : JournalEntry) → e.seq ≡ n + length es → map (λ (d : JournalEntry). d.seq) es ≡ numbers_from n es → map (λ (d : JournalEntry). d.seq) (es ++ e ∷ []) ≡ numbers_from n (es ++ e ∷ [])
+pub numbers_push : (n : ℕ) (es : List JournalEntry) (e : JournalEntry) → e.seq ≡ n + length es → map (λ (d : JournalEntry). d.seq) es ≡ numbers_from n es → map (λ (d : JournalEntry). d.seq) (es ++ e ∷ []) ≡ numbers_from n (es ++ e ∷ [])
 numbers_push n [] e seq h = let g : e.seq ≡ n = omega (arith, seq) in λ i. g i ∷ []
 numbers_push n (d ∷ ds) e seq h = head_tail d.seq n _ _ (heads d.seq n _ _ h) (numbers_push (n + 1) ds e (omega (arith, seq)) (tails d.seq n _ _ h))
   where

@@ -23,8 +23,8 @@ use Rattle.held_stars.specs.Holding.{IsKnown, Made, Restorable, Story, Going, En
 use Rattle.held_stars.specs.declared.hold.Hold.{Hold}
 use Rattle.held_stars.specs.declared.stopped.Stopped.{Stopped}
 use Rattle.held_stars.specs.declared.stopped.Stopped.TheVariants.{Busy, Quit}
-use Rattle.held_stars.proofs.LentStars.{has_snoc}
 use Rattle.held_stars.proofs.MadeFlips.{untouched, made_restorable}
+use Rattle.complex_core.proofs.Members.{has_snoc}
 
 alike_end : (held : ℕ → Bool) (m : Space) (x y : Option Space) → x ≡ Some m → EndAlikeOn held x y → (n : Space) × (y ≡ Some n) × AlikeOn held m n
 alike_end held m (Some k) (Some n) e h = let i : k ≡ m = cc in (n, refl, subst (λ (j : Space). AlikeOn held j n) i h)

@@ -10,7 +10,7 @@ use Rattle.star_laws.specs.Stars.{flips_touch}
 use Rattle.stars.specs.StarViews.{VertexStar, vertices}
 use Rattle.board_rule.specs.Items.{item, has_item, without}
 use Rattle.board_rule.specs.Plays.{Sees}
-use Rattle.board_rule.specs.Views.{home, keeps, Empty, without_item}
+use Rattle.board_rule.specs.Views.{home, keeps, without_item}
 use Rattle.board_rule.specs.declared.data.Home.{Home as HomeOf}
 use Rattle.board_rule.specs.declared.data.Slot.TheVariants.{Home}
 use Rattle.board_rule.specs.declared.view.Hand.{Hand}
@@ -19,7 +19,9 @@ use Rattle.vertex_claims.specs.Passes.{IsSame, know, slot, Puts}
 use Rattle.vertex_claims.specs.declared.pass.Pass.{Pass}
 use Rattle.held_stars.specs.Holding.{Settles, IsKnown, Restorable, waits}
 use Rattle.held_stars.specs.declared.hold.Hold.{Hold}
-use Rattle.held_stars.proofs.LentStars.{has_snoc, vertices_snoc, each_front, same_passes}
+use Rattle.held_stars.proofs.LentStars.{vertices_snoc, each_front, same_passes}
+use Rattle.std.proofs.lemmas.Bool.{ne_eqb}
+use Rattle.complex_core.proofs.Members.{has_snoc}
 
 -- what a pass keeps while it gives places back
 pub record Keeps (v w : Hand) : Type 0 where
@@ -49,9 +51,6 @@ last_or : (a b : Bool) → (a || b) ≡ true → b ≡ false → a ≡ true
 last_or true b h u = refl
 last_or false b h u = off (sym u ∙ h)
 
-apart : (m n : ℕ) → m ≢ n → nat_eq m n ≡ false
-apart m n ne = grind (arith, Rattle.std.proofs.lemmas.Bool.Decides.nat_tests)
-
 -- the last place was released
 pub given_one : (a b c d : Pass) (flips : List Flip) (places front : List ℕ) (p : ℕ) → GivingUp a b flips places → places ≡ front ++ p ∷ [] → IsSame b c → know c ≡ know b → ((q : ℕ) → q ≢ p → slot c q ≡ slot b q)
     → IsSame c d → know d ≡ without_item (know c) p → Puts c d p none → GivingUp a d flips front
@@ -76,7 +75,7 @@ given_one a b c d flips places front p g is same_bc known_bc slots same_cd known
       among = λ q h.
           let ne = other q h in
           let old = has_less p q (know b).items (ap (λ (l : List (ℕ × HomeOf)). has_item l q) (sym items) ∙ h) in
-          last_or (has front q) (nat_eq p q) (sym (has_snoc front p q) ∙ (ap (λ (l : List ℕ). has l q) (sym is) ∙ g.among q old)) (apart p q (λ e. ne (sym e)));
+          last_or (has front q) (nat_eq p q) (sym (has_snoc front p q) ∙ (ap (λ (l : List ℕ). has l q) (sym is) ∙ g.among q old)) (ne_eqb p q (λ e. ne (sym e)));
     }
 
 -- the last place isn't held
@@ -85,15 +84,8 @@ given_none a b flips places front p g is out = record {
   same = g.same;
   kept = g.kept;
   settles = g.settles;
-  among = λ q h. last_or (has front q) (nat_eq p q) (sym (has_snoc front p q) ∙ (ap (λ (l : List ℕ). has l q) (sym is) ∙ g.among q h)) (apart p q (λ e. off (sym out ∙ (ap (has_item (know b).items) e ∙ h))));
+  among = λ q h. last_or (has front q) (nat_eq p q) (sym (has_snoc front p q) ∙ (ap (λ (l : List ℕ). has l q) (sym is) ∙ g.among q h)) (ne_eqb p q (λ e. off (sym out ∙ (ap (has_item (know b).items) e ∙ h))));
 }
-
-pub given_all : (a b : Pass) (flips : List Flip) (places : List ℕ) → GivingUp a b flips places → places ≡ [] → (know a).has_journal ≡ false → Empty (know b)
-given_all a b flips places g is free p = tested p 0 (λ t. cond t (know b).has_journal (has_item (know b).items p) ≡ false) (λ _. g.kept.free ∙ free) (λ _. by (has_item (know b).items p) refl)
-  where
-    by : (t : Bool) → has_item (know b).items p ≡ t → has_item (know b).items p ≡ false
-    by true h = off (ap (λ (l : List ℕ). has l p) (sym is) ∙ g.among p h)
-    by false h = h
 
 -- ---- stars as they came
 
@@ -114,7 +106,7 @@ restored_one a b h n star p r is at same puts places =
           dite (ℕ_discrete p q)
           (λ e. let v : k.0 ≡ x = some-injective k.0 x (sym here ∙ (ap (item (know a).items) e ∙ was)) in
           (star, put ∙ (tested p q (λ t. cond t (some (Home (home star k.0.version))) (slot a q) ≡ some (Home (home star k.0.version))) (λ _. refl) (λ ne. absurd (ne e)) ∙ ap (λ (y : HomeOf). some (Home (home star y.version))) v), λ _. k.2 ∙ ap (λ (y : HomeOf). y.star) v))
-          (λ ne. (s.0, put ∙ (tested p q (λ t. cond t (some (Home (home star k.0.version))) (slot a q) ≡ slot a q) (λ e. absurd (ne e)) (λ _. refl) ∙ s.1), λ u. s.2 (old q ∙ both (has (vertices n.copies.items) q) (nat_eq star.vertex q) u (apart star.vertex q (λ e. ne (at ∙ e))))));
+          (λ ne. (s.0, put ∙ (tested p q (λ t. cond t (some (Home (home star k.0.version))) (slot a q) ≡ slot a q) (λ e. absurd (ne e)) (λ _. refl) ∙ s.1), λ u. s.2 (old q ∙ both (has (vertices n.copies.items) q) (nat_eq star.vertex q) u (ne_eqb star.vertex q (λ e. ne (at ∙ e))))));
       known = subst (λ (v : Hand). AllByRecursion (IsKnown v.items) n.copies.items) (sym same) split.0;
       places = λ q t. ap (λ (ps : List ℕ). has ps q) places ∙ r.places q (ap (λ (v : Hand). has_item v.items q) (sym same) ∙ t);
       free = ap (λ (v : Hand). v.has_journal) same ∙ r.free;
@@ -129,12 +121,6 @@ copy_slot a h n front star p r is at =
     let k : IsKnown (know a).items star = (each_front (IsKnown (know a).items) front star (subst (AllByRecursion (IsKnown (know a).items)) is r.known)).1 in
     let l = r.slots p k.0 (ap (item (know a).items) at ∙ k.1) in
     (home l.0 k.0.version, l.1)
-
--- all copies were put back
-pub restored_all : (a : Pass) (h : Hold) → Restorable a h → h.copies.items ≡ [] → Settles a []
-restored_all a h r is q x at =
-    let s = r.slots q x at in
-    (x.version, s.1 ∙ ap (λ (t : VertexStar). some (Home (home t x.version))) (s.2 (ap (λ (cs : List VertexStar). has (vertices cs) q) is)), (let e : x.version ≡ x.version + 0 = omega arith in e))
 
 -- ---- claims of place 0
 

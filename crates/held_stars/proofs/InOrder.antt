@@ -1,16 +1,17 @@
 -- Labels that are claimed one after another.
-use Rattle.std.proofs.Common.{◌≡◌, ◌⊎◌, inl, inr, ℕ, zero, suc, ◌+◌, ◌<◌, ◌≤◌, true, cond, nat_eq, ◌||◌, List, [], ◌∷◌, length, get_or, take, sym, ◌∙◌, ap, subst, ⊎_elim}
+use Rattle.std.proofs.Common.{◌≡◌, ◌⊎◌, inl, inr, ℕ, zero, suc, ◌+◌, ◌<◌, ◌≤◌, true, nat_eq, ◌||◌, List, [], ◌∷◌, length, get_or, take, sym, ◌∙◌, ap, subst, ⊎_elim}
 use Rattle.std.proofs.lemmas.List.{take_more}
 use Rattle.complex_core.specs.Labels.{has}
 use Rattle.complex_core.proofs.Laws.{or_left, or_right, nat_eq_same}
 use Rattle.complex_core.proofs.SubsetLists.{two}
 use Rattle.board_rule.specs.Items.{has_item}
 use Rattle.board_rule.specs.declared.data.Home.{Home as HomeOf}
-use Rattle.board_rule.proofs.Items.{tested, off}
+use Rattle.board_rule.proofs.Items.{off}
 use Rattle.held_stars.specs.Holding.{RefusedOf, EndedAt}
 use Rattle.held_stars.specs.declared.stopped.Stopped.{Stopped}
 use Rattle.held_stars.specs.declared.stopped.Stopped.TheVariants.{Busy, Quit}
-use Rattle.held_stars.proofs.LentStars.{has_snoc, take_all}
+use Rattle.held_stars.proofs.LentStars.{take_all}
+use Rattle.complex_core.proofs.Members.{has_snoc}
 
 abbrev pub Items : Type 0
 Items = List (ℕ × HomeOf)
@@ -18,17 +19,6 @@ Items = List (ℕ × HomeOf)
 -- what is held is what was held, or these labels
 abbrev pub OnlyMore : Items → Items → List ℕ → Type 0
 OnlyMore was now labels = (q : ℕ) → has_item now q ≡ true → (has_item was q ≡ true) ⊎ (has labels q ≡ true)
-
--- a claim that was won
-pub one_held : (p : ℕ) (x : HomeOf) (was now : Items) → now ≡ (p, x) ∷ was → (q : ℕ) → has_item now q ≡ true → (has_item was q ≡ true) ⊎ (p ≡ q)
-one_held p x was now is q h = tested p q (λ t. cond t true (has_item was q) ≡ true → (has_item was q ≡ true) ⊎ (p ≡ q)) (λ e _. inr e) (λ _ t. inl t) (ap (λ (l : Items). has_item l q) (sym is) ∙ h)
-
--- a claim that was refused, and one after which the gate ended the try
-pub refused_of : (p place : ℕ) (o : ℕ) (was now : Items) → place ≡ p → now ≡ was → RefusedOf p was now (Busy place o)
-refused_of p place o was now e is = (e, is)
-
-pub not_refused : (p : ℕ) (was now : Items) (why : Stopped) → why ≡ Quit → RefusedOf p was now why
-not_refused p was now why e = subst (RefusedOf p was now) (sym e) tt
 
 taken : (labels : List ℕ) (i q : ℕ) → i < length labels → has (take (i + 1) labels) q ≡ (has (take i labels) q || nat_eq (get_or labels i 0) q)
 taken labels i q l = ap (λ (xs : List ℕ). has xs q) (take_more labels i 0 l) ∙ has_snoc (take i labels) (get_or labels i 0) q

@@ -1,7 +1,6 @@
 -- Stars that are taken from their slots and put back.
 use Rattle.std.proofs.Common.{◌≡◌, ◌≢◌, ℕ, zero, suc, eqb, ◌+◌, ◌<◌, ◌≤◌, Bool, true, false, cond, nat_eq, ◌||◌, List, [], ◌∷◌, ◌++◌, length, take, get_or, sym, ◌∙◌, ap, refl, subst, arith}
 use Rattle.std.specs.List.{AllByRecursion, list_any}
-use Rattle.std.specs.List.Sorted.{IsStrictlySortedBy}
 use Rattle.std.specs.Ordering.{nat_cmp}
 use Rattle.std.proofs.lemmas.Bool.Decides.{nat_tests}
 use Rattle.std.proofs.lemmas.List.{length-append, take_more}
@@ -21,24 +20,18 @@ use Rattle.board_rule.proofs.Items.{tested, off, some_of}
 use Rattle.vertex_claims.specs.Passes.{IsSame, know, slot, spare, Puts}
 use Rattle.vertex_claims.specs.declared.pass.Pass.{Pass}
 use Rattle.held_stars.specs.Holding.{Lends, Hosts, Emptied, with_copies}
+use Rattle.complex_core.proofs.Members.{each_push, has_snoc}
+use Rattle.stars.proofs.Adding.{not_before}
+use Rattle.stars.proofs.Asking.{star_there}
 
 -- ---- rising labels
-
-not_equal : (x y : ℕ) → x < y → nat_eq x y ≡ false
-not_equal x y l = grind (arith, nat_tests)
 
 pub positive_at : (xs : List ℕ) (i : ℕ) → IsRising xs → i < length xs → 0 < get_or xs i 0
 positive_at xs i r l = below_from_sorted (0 ∷ xs) 0 (suc i) 0 r (omega arith) (omega (arith, l))
 
-fresh_of : (xs : List ℕ) (i : ℕ) → IsStrictlySortedBy nat_cmp xs → i < length xs → has (take i xs) (get_or xs i 0) ≡ false
-fresh_of [] i s l = absurd (omega arith)
-fresh_of (y ∷ ys) zero s l = refl
-fresh_of (y ∷ ys) (suc i) s l =
-    both_false (not_equal y (get_or ys i 0) (below_from_sorted (y ∷ ys) 0 (suc i) 0 s (omega arith) l)) (fresh_of ys i (above_tail nat_cmp y ys s) (omega (arith, l)))
-
 -- a label isn't among those before it
 pub fresh_at : (xs : List ℕ) (i : ℕ) → IsRising xs → i < length xs → has (take i xs) (get_or xs i 0) ≡ false
-fresh_at xs i r l = fresh_of xs i (above_tail nat_cmp 0 xs r) l
+fresh_at xs i r l = not_before xs i (above_tail nat_cmp 0 xs r) l
 
 -- ---- one exchange
 
@@ -69,25 +62,9 @@ is_star k s h = λ i. record { vertex = s.vertex; dim = h.dim i; rows = h.rows i
 star_is : (k : Space) (p : ℕ) (s : VertexStar) → s ≡ star_in k p → IsStarOf k s
 star_is k p s e = subst (IsStarOf k) (sym e) record { dim = refl; rows = refl }
 
-pub has_snoc : (xs : List ℕ) (y q : ℕ) → has (xs ++ y ∷ []) q ≡ (has xs q || nat_eq y q)
-has_snoc [] y q = or_false (nat_eq y q)
-  where
-    or_false : (b : Bool) → (b || false) ≡ b
-    or_false true = refl
-    or_false false = refl
-has_snoc (x ∷ xs) y q = ap (λ (b : Bool). nat_eq x q || b) (has_snoc xs y q) ∙ or_assoc (nat_eq x q) (has xs q) (nat_eq y q)
-  where
-    or_assoc : (a b c : Bool) → (a || (b || c)) ≡ ((a || b) || c)
-    or_assoc true b c = refl
-    or_assoc false b c = refl
-
 pub vertices_snoc : (near : List VertexStar) (s : VertexStar) → vertices (near ++ s ∷ []) ≡ vertices near ++ s.vertex ∷ []
 vertices_snoc [] s = refl
 vertices_snoc (n ∷ near) s = ap (λ (l : List ℕ). n.vertex ∷ l) (vertices_snoc near s)
-
-pub each_snoc : {X : Type 0} (P : X → Type 0) (xs : List X) (y : X) → AllByRecursion P xs → P y → AllByRecursion P (xs ++ y ∷ [])
-each_snoc P [] y h p = (p, tt)
-each_snoc P (x ∷ xs) y h p = (h.0, each_snoc P xs y h.1 p)
 
 pub each_front : {X : Type 0} (P : X → Type 0) (xs : List X) (y : X) → AllByRecursion P (xs ++ y ∷ []) → AllByRecursion P xs × P y
 each_front P [] y h = (tt, h.0)
@@ -131,7 +108,7 @@ lending_more a b c front near p out star l same known spares outs puts held fres
       lent = λ k hosts. exchanged b c k front (front ++ p ∷ []) p star known puts held_b
           (λ f. off (sym f ∙ (has_snoc front p p ∙ last_true (has front p) (nat_eq p p) (equal p))))
           (λ q ne f. first_false (has front q) (nat_eq p q) (sym (has_snoc front p q) ∙ f)) (l.lent k hosts);
-      stars = λ k hosts. each_snoc (IsStarOf k) near out (l.stars k hosts) (star_is k p out (out_is k hosts));
+      stars = λ k hosts. each_push (IsStarOf k) near out (l.stars k hosts) (star_is k p out (out_is k hosts));
       vertices_are = vertices_snoc near out ∙ (λ i. l.vertices_are i ++ (ap (λ (s : VertexStar). s.vertex) (out_is k0 hosts0)) i ∷ []);
     }
   where
@@ -232,34 +209,13 @@ lent_none a = record {
   vertices_are = refl;
 }
 
--- the k-th of some labels is one of them
-pub has_here : (xs : List ℕ) (i : ℕ) → i < length xs → has xs (get_or xs i 0) ≡ true
-has_here [] i l = absurd (omega arith)
-has_here (y ∷ ys) zero l = first (nat_eq y y) (has ys y) (equal y)
-  where
-    equal : (n : ℕ) → nat_eq n n ≡ true
-    equal n = grind (arith, nat_tests)
-
-    first : (a b : Bool) → a ≡ true → (a || b) ≡ true
-    first true b h = refl
-    first false b h = off h
-has_here (y ∷ ys) (suc i) l = last (nat_eq y (get_or ys i 0)) (has ys (get_or ys i 0)) (has_here ys i (omega (arith, l)))
-  where
-    last : (a b : Bool) → b ≡ true → (a || b) ≡ true
-    last true b h = refl
-    last false b h = h
-
 -- ---- copies
 
-pub any_vertex : (near : List VertexStar) (x : ℕ) → list_any (λ s. nat_eq s.vertex x) near ≡ has (vertices near) x
-any_vertex [] x = refl
-any_vertex (s ∷ near) x = ap (λ (b : Bool). nat_eq s.vertex x || b) (any_vertex near x)
-
 pub has_one : (copies : List VertexStar) (s : VertexStar) (b : Bool) → b ≡ list_any (λ (t : VertexStar). nat_eq t.vertex s.vertex) copies → b ≡ true → copies ≡ with_copies copies (s ∷ [])
-has_one copies s b is h = sym (ap (λ (t : Bool). cond t copies (copies ++ s ∷ [])) (sym (any_vertex copies s.vertex) ∙ (sym is ∙ h)))
+has_one copies s b is h = sym (ap (λ (t : Bool). cond t copies (copies ++ s ∷ [])) (sym (star_there copies s.vertex) ∙ (sym is ∙ h)))
 
 pub has_none : (copies : List VertexStar) (s : VertexStar) (b : Bool) → b ≡ list_any (λ (t : VertexStar). nat_eq t.vertex s.vertex) copies → b ≡ false → copies ++ s ∷ [] ≡ with_copies copies (s ∷ [])
-has_none copies s b is h = sym (ap (λ (t : Bool). cond t copies (copies ++ s ∷ [])) (sym (any_vertex copies s.vertex) ∙ (sym is ∙ h)))
+has_none copies s b is h = sym (ap (λ (t : Bool). cond t copies (copies ++ s ∷ [])) (sym (star_there copies s.vertex) ∙ (sym is ∙ h)))
 
 pub copies_snoc : (copies near : List VertexStar) (s : VertexStar) → with_copies copies (near ++ s ∷ []) ≡ with_copies (with_copies copies near) (s ∷ [])
 copies_snoc copies [] s = refl
@@ -300,17 +256,11 @@ return_none a near held = record {
   held = held;
 }
 
-nil_of : (xs ys : List VertexStar) → xs ≡ ys ++ [] → ys ≡ [] → xs ≡ []
-nil_of xs ys e f = e ∙ ap (λ (zs : List VertexStar). zs ++ []) f
-
 pub returned : (a b : Pass) (before near : List VertexStar) → Returning a b before near → near ≡ [] → (k : Space) → Lends a k (vertices before) → AllByRecursion (IsStarOf k) before → Hosts b k
 returned a b before near l is k lends stars = lend_hosts b k (subst (λ (ns : List VertexStar). Lends b k (vertices ns)) is (l.lent k lends stars))
 
 pub lent_all : (a b : Pass) (labels : List ℕ) (i : ℕ) (near : List VertexStar) → Lending a b (take i labels) near → take i labels ≡ labels → Lending a b labels near
 lent_all a b labels i near l e = subst (λ (front : List ℕ). Lending a b front near) e l
-
-pub no_copies : (a : List VertexStar) → a ≡ with_copies a []
-no_copies a = refl
 
 pub copies_next : (was near now next : List VertexStar) (i : ℕ) (s : VertexStar) → i < length near → now ≡ with_copies was (take i near) → next ≡ with_copies now (s ∷ []) → s ≡ get_or near i s → next ≡ with_copies was (take (i + 1) near)
 copies_next was near now next i s l e f at =

@@ -4,7 +4,7 @@ use Rattle.std.specs.List.{AllByRecursion}
 use mathlib.Core.Option.{some}
 use Rattle.complex_core.specs.Labels.{IsRising, IsFace, has, union}
 use Rattle.complex_core.specs.Spaces.{Space, IsComplex}
-use Rattle.complex_core.proofs.Laws.{has-union, holds_each, length_union_le, or_left, or_right, both_false}
+use Rattle.complex_core.proofs.Laws.{has-union, holds_each, length_union_le, or_left, or_right, or_assoc}
 use Rattle.flip_rules.specs.Flips.{why, flipped, replay, OfFaces, Shaped}
 use Rattle.flip_rules.specs.Journals.{flip_touches}
 use Rattle.flip_rules.specs.declared.flip.Flip.{Flip}
@@ -25,25 +25,12 @@ use Rattle.vertex_claims.specs.Passes.{know}
 use Rattle.vertex_claims.specs.declared.pass.Pass.{Pass}
 use Rattle.held_stars.specs.Holding.{Lends, Hosts, IsKnown, Copies, Made, Restorable, with_copies}
 use Rattle.held_stars.specs.declared.hold.Hold.{Hold}
-use Rattle.held_stars.proofs.LentStars.{is_star, each_snoc, has_snoc, vertices_snoc}
+use Rattle.held_stars.proofs.LentStars.{is_star, vertices_snoc}
+use Rattle.complex_core.proofs.Booleans.{left_off, right_off, or_none}
+use Rattle.complex_core.proofs.Members.{each_push, has_snoc}
+use Rattle.stars.proofs.Flipping.{same_vertices}
 
 -- ---- booleans
-
-left_off : (a b : Bool) → (a || b) ≡ false → a ≡ false
-left_off true b h = h
-left_off false b h = refl
-
-right_off : (a b : Bool) → (a || b) ≡ false → b ≡ false
-right_off true b h = off (sym h)
-right_off false b h = h
-
-or_none : (b : Bool) → (b || false) ≡ b
-or_none true = refl
-or_none false = refl
-
-regroup : (a b c : Bool) → (a || (b || c)) ≡ ((a || b) || c)
-regroup true b c = refl
-regroup false b c = refl
 
 by_or : (a b c : Bool) → (a ≡ true → c ≡ true) → (b ≡ true → c ≡ true) → (a || b) ≡ true → c ≡ true
 by_or true b c f g h = f refl
@@ -53,7 +40,7 @@ by_or false b c f g h = g h
 
 pub touch_snoc : (q : ℕ) (fs : List Flip) (f : Flip) → flips_touch q (fs ++ f ∷ []) ≡ (flips_touch q fs || flip_touches q f)
 touch_snoc q [] f = or_none (flip_touches q f)
-touch_snoc q (g ∷ fs) f = ap (λ (b : Bool). flip_touches q g || b) (touch_snoc q fs f) ∙ regroup (flip_touches q g) (flips_touch q fs) (flip_touches q f)
+touch_snoc q (g ∷ fs) f = ap (λ (b : Bool). flip_touches q g || b) (touch_snoc q fs f) ∙ or_assoc (flip_touches q g) (flips_touch q fs) (flip_touches q f)
 
 pub touch_one : (q : ℕ) (f : Flip) → flip_touches q f ≡ true → flips_touch q (f ∷ []) ≡ true
 touch_one q f h = or_left (flip_touches q f) false h
@@ -100,21 +87,17 @@ lends_flipped pass now f labels after c is same ok lends q x at =
     let r = lends q x at in
     (r.0, r.1, λ u. let u' : has labels q ≡ false = ap (λ (l : List ℕ). has l q) (sym same) ∙ u in r.2 u' ∙ sym (stays now f q c ok (sym (union_touches labels f q is) ∙ u')))
 
-pub vertices_flipped : (near : List VertexStar) (a b : List ℕ) → vertices (stars_flipped near a b) ≡ vertices near
-vertices_flipped [] a b = refl
-vertices_flipped (s ∷ near) a b = ap (λ (l : List ℕ). s.vertex ∷ l) (vertices_flipped near a b)
-
 -- the stars may go back to their slots, whether the flip was made or not
 pub lent_after : (pass : Pass) (now : Space) (f : Flip) (labels : List ℕ) (near after : List VertexStar) (r : Result (Unit {0}) FlipFault) → AreStarsOf now near → labels ≡ union f.a f.b → vertices near ≡ labels → Lends pass now labels
     → OnOk r (why now f.a f.b ≡ Ok tt) → OnOk r (AreStarsOf (flipped now f.a f.b) after) → OnOk r (after ≡ stars_flipped near f.a f.b) → OnErr r (after ≡ near)
     → (k : Space) × Lends pass k (vertices after) × AllByRecursion (IsStarOf k) after
 lent_after pass now f labels near after (Ok u) are is vs lends ok stars last same =
-    (flipped now f.a f.b, lends_flipped pass now f labels (vertices after) are.complex is (ap vertices last ∙ (vertices_flipped near f.a f.b ∙ vs)) ok lends, stars.each)
+    (flipped now f.a f.b, lends_flipped pass now f labels (vertices after) are.complex is (ap vertices last ∙ (same_vertices near f.a f.b ∙ vs)) ok lends, stars.each)
 lent_after pass now f labels near after (Err e) are is vs lends ok stars last same =
     (now, subst (λ (l : List ℕ). Lends pass now l) (sym (ap vertices same ∙ vs)) lends, subst (AllByRecursion (IsStarOf now)) (sym same) are.each)
 
 pub vertices_after : (f : Flip) (near after : List VertexStar) (r : Result (Unit {0}) FlipFault) → OnOk r (after ≡ stars_flipped near f.a f.b) → OnErr r (after ≡ near) → vertices after ≡ vertices near
-vertices_after f near after (Ok u) last same = ap vertices last ∙ vertices_flipped near f.a f.b
+vertices_after f near after (Ok u) last same = ap vertices last ∙ same_vertices near f.a f.b
 vertices_after f near after (Err e) last same = ap vertices same
 
 -- ---- copies
@@ -134,7 +117,7 @@ has_copied_one cs n q false h = ap (λ (vs : List ℕ). has vs q) (vertices_snoc
 pub has_copied : (cs ns : List VertexStar) (q : ℕ) → has (vertices (with_copies cs ns)) q ≡ (has (vertices cs) q || has (vertices ns) q)
 has_copied cs [] q = sym (or_none (has (vertices cs) q))
 has_copied cs (n ∷ ns) q =
-    has_copied (cond (has (vertices cs) n.vertex) cs (cs ++ n ∷ [])) ns q ∙ (ap (λ (b : Bool). b || has (vertices ns) q) (has_copied_one cs n q (has (vertices cs) n.vertex) refl) ∙ sym (regroup (has (vertices cs) q) (nat_eq n.vertex q) (has (vertices ns) q)))
+    has_copied (cond (has (vertices cs) n.vertex) cs (cs ++ n ∷ [])) ns q ∙ (ap (λ (b : Bool). b || has (vertices ns) q) (has_copied_one cs n q (has (vertices cs) n.vertex) refl) ∙ sym (or_assoc (has (vertices cs) q) (nat_eq n.vertex q) (has (vertices ns) q)))
 
 each_map : {P Q : VertexStar → Type 0} (f : (n : VertexStar) → P n → Q n) (ns : List VertexStar) → AllByRecursion P ns → AllByRecursion Q ns
 each_map f [] h = tt
@@ -158,7 +141,7 @@ known_added items cs (n ∷ ns) h g = known_added items (cond (has (vertices cs)
   where
     one : (b : Bool) → has (vertices cs) n.vertex ≡ b → AllByRecursion (IsKnown items) (cond b cs (cs ++ n ∷ []))
     one true e = h
-    one false e = each_snoc (IsKnown items) cs n h (g.0 e)
+    one false e = each_push (IsKnown items) cs n h (g.0 e)
 
 -- a star that was held and has no copy is as it is known
 pub known_star : (pass : Pass) (h : Hold) (now : Space) → Sees (know pass) → Made pass h now → (q : ℕ) (x : HomeOf) → item (know pass).items q ≡ some x → has (vertices h.copies.items) q ≡ false → star_in now q ≡ x.star
@@ -185,7 +168,7 @@ made_flip a b h n now f labels near sees m same faces ok pass is vs each flips p
     let near_touches : (q : ℕ) → has (vertices near) q ≡ flip_touches q f = λ q. ap (λ (l : List ℕ). has l q) vs ∙ union_touches labels f q is in
     record {
       replays = ap (λ (v : Hand). replay v.seen n.flips.items) same ∙ (ap (replay (know a).seen) flips ∙ replay_then (know a).seen now h.flips.items f m.replays ok);
-      faces = subst (AllByRecursion OfFaces) (sym flips) (each_snoc OfFaces h.flips.items f m.faces faces);
+      faces = subst (AllByRecursion OfFaces) (sym flips) (each_push OfFaces h.flips.items f m.faces faces);
       labels = λ q t. ap (λ (v : Hand). has_item v.items q) same ∙ by_or (flips_touch q h.flips.items) (flip_touches q f) (has_item (know a).items q) (m.labels q) (λ e. pass q (touch_one q f e)) (sym (touches q) ∙ t);
       places = λ q t. ap (λ (ps : List ℕ). has ps q) places ∙ m.places q (ap (λ (v : Hand). has_item v.items q) (sym same) ∙ t);
       copied = λ q t. ap (λ (cs : List VertexStar). has (vertices cs) q) copies ∙ (has_copied h.copies.items near q ∙ by_or (flips_touch q h.flips.items) (flip_touches q f) (has (vertices h.copies.items) q || has (vertices near) q)

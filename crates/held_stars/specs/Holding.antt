@@ -11,7 +11,7 @@ use Rattle.star_laws.specs.Stars.{flips_touch, LabelsPass}
 use Rattle.stars.specs.StarViews.{VertexStar, vertices}
 use Rattle.board_rule.specs.Items.{item, has_item}
 use Rattle.board_rule.specs.Plays.{IsRefused}
-use Rattle.board_rule.specs.Tries.{Try}
+use Rattle.board_rule.specs.Tries.{Try, Unrefused}
 use Rattle.board_rule.specs.Views.{home, star_in, counted}
 use Rattle.board_rule.specs.declared.data.Home.{Home as HomeOf}
 use Rattle.board_rule.specs.declared.data.Slot.TheVariants.{Home}
@@ -90,10 +90,6 @@ pub record Noting (story : Story) (v : Hand) (t : Try) : Type 0 where
   pub worker : v.worker ≡ story.worker
   pub start : v.start.dim ≡ story.dim
 
--- no later claim was refused
-abbrev pub Unrefused : Try → Type 0
-Unrefused t = (t.vertices ≡ 0) × (t.journal ≡ 0)
-
 -- it goes on, and no later claim was refused
 pub record Going (story : Story) (v : Hand) : Type 0 where
   pub try_now : Try
@@ -101,7 +97,7 @@ pub record Going (story : Story) (v : Hand) : Type 0 where
   pub note : try_now.note ≡ v.items
   pub mine : v.mine ≡ story.mine
   pub claiming : v.claiming ≡ true
-  pub fresh : Unrefused try_now
+  pub fresh : Unrefused try_now.vertices try_now.journal
 
 -- these flips were made on the stars that are held, which are those of a complex now
 pub record Made (pass : Pass) (h : Hold) (now : Space) : Type 0 where
@@ -136,7 +132,7 @@ pub record RefusedAt (story : Story) (t : Try) (q o : ℕ) : Type 0 where
 -- what the note of the try has of why it stopped
 abbrev pub Reason : Story → Try → Stopped → Type 0
 Reason story t (Busy q o) = RefusedAt story t q o
-Reason story t Quit = Unrefused t
+Reason story t Quit = Unrefused t.vertices t.journal
 
 -- it stopped, no entry is new, and the stars that it holds can be put back as they came
 pub record Ends (story : Story) (pass : Pass) (h : Hold) (why : Stopped) : Type 0 where

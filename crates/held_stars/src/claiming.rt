@@ -16,8 +16,11 @@ use crate::point::{Point, Step};
 use crate::stopped::Stopped;
 use vertex_claims::{Board, Claimed, Pass};
 
-// Asks the gate at a point.
-fn ask<G: Gate>(gate: &mut G, point: Point) -> Result<(), Stopped>
+/// Asks the gate at a point.
+///
+/// # Errors
+/// `Quit` where it ends the try.
+pub fn ask<G: Gate>(gate: &mut G, point: Point) -> Result<(), Stopped>
     ensures later { G.quits gate.old ≤ G.quits gate.new }
     ensures quit { IfErr result (λ answer. (answer ≡ Stopped.Quit) × (G.quits gate.old < G.quits gate.new)) }
     ensures heard { Follows (G.heard gate.old) (G.heard gate.new) (λ h g. g ≡ after_asked point (fails is_stop result) h) }

@@ -1,7 +1,7 @@
 //! Stars that a worker takes from their slots while it makes a flip.
 
-ghost use Rattle.std.specs.Prelude.{◌≡◌, ◌+◌, ◌<◌, ◌≤◌, ◌∷◌, [], ℕ, true, OnOk, OnErr, nat_eq, vec_capacity, length};
-ghost use Rattle.std.specs.List.{AllByRecursion, list_any};
+ghost use Rattle.std.specs.Prelude.{◌≡◌, ◌+◌, ◌<◌, ◌≤◌, ◌∷◌, [], ℕ, true, OnOk, OnErr, vec_capacity, length};
+ghost use Rattle.std.specs.List.{AllByRecursion};
 ghost use mathlib.Core.Option.{some};
 ghost use Rattle.complex_core.specs.Labels.{IsFace, has};
 ghost use Rattle.complex_core.specs.Spaces.{Space};
@@ -13,7 +13,7 @@ ghost use Rattle.vertex_claims.specs.Passes.{IsOf, IsSame, know, slot, spare, Pu
 ghost use Rattle.held_stars.specs.Holding.{Hosts, Lends, Emptied, Copies, with_copies};
 
 use board_rule::{Home, Slot};
-use stars::Star;
+use stars::{Star, has_star};
 use std::alloc::{AllocError, Global};
 use vertex_claims::{Board, Pass};
 
@@ -75,13 +75,6 @@ pub fn give_back(board: &Board, pass: &mut Pass, near: &mut Vec<Star>)
         let place = star.vertex();
         let _empty = swap_star(board, pass, place, star);
     }
-}
-
-// Whether one of these stars is that of a place.
-fn has_star(stars: &[Star], place: u16) -> bool
-    ensures { result ≡ list_any (λ s. nat_eq s.vertex place) stars.now }
-{
-    stars.iter().any(|star| star.vertex() == place)
 }
 
 // Copies a star if its place has no copy yet.

@@ -18,7 +18,7 @@ mod lending;
 mod point;
 mod stopped;
 
-pub use claiming::claim_labels;
+pub use claiming::{ask, claim_labels};
 pub use ending::{fetch, give_up, roll_back};
 pub use flipping::make_flip;
 pub use gate::{Gate, OpenGate};

@@ -1,22 +1,9 @@
 -- There is one least ridge that doesn't lie in two facets, and one least facet that isn't joined; each has one line.
-use Rattle.std.proofs.Common.{◌≡◌, ℕ, List, sym, ◌∙◌, ap, refl, subst}
-use Rattle.std.specs.Cmp.Lexicographic.{nat_list_cmp_total}
-use Rattle.std.specs.Ordering.{ordering_reverse}
-use Rattle.std.specs.declared.cmp.Ordering.TheVariants.{Less, Equal, Greater}
-use Rattle.complex_core.specs.Labels.{face_cmp}
-use Rattle.complex_core.proofs.Sorting.{exact_faces}
+use Rattle.std.proofs.Common.{◌≡◌, ℕ, List, sym, ◌∙◌, ap, subst}
 use Rattle.pseudo_test.specs.Ridges.{count, Closed, IsLeastOther}
 use Rattle.pseudo_test.specs.Chains.{Strong, IsLeast, IsApart}
 use Rattle.job_answer.specs.Lines.{ridge_line, apart_line}
-
--- two sets neither of which is less are one
-neither_less : (f g : List ℕ) → (face_cmp f g ≡ Less → ⊥) → (face_cmp g f ≡ Less → ⊥) → f ≡ g
-neither_less f g p q =
-    elim (face_cmp f g) as (λ o. face_cmp f g ≡ o → f ≡ g) [
-      | Less ↦ λ e. absurd (p e)
-      | Equal ↦ λ e. exact_faces f g e
-      | Greater ↦ λ e. absurd (q (nat_list_cmp_total.antisymm g f ∙ ap ordering_reverse e))
-    ] refl
+use Rattle.complex_core.proofs.SetLists.{neither_less}
 
 -- ---- the least ridge
 

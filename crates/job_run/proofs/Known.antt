@@ -48,8 +48,3 @@ headline_is_known (Some bytes) old new words j s xs p h w n v = (xs, verdict_hea
 pub complete_is_known : (known : Option (List ℕ)) (words : List (List ℕ)) (j : Job) (s : Status) (xs : List ℕ) (p : JobReport) → IfSome known (λ bytes. IsAnswer words bytes s xs p) → IsJob words j → IfSome known (λ bytes. IsInput j bytes → MayEnd j s ⊎ (s ≡ NoMemory))
 complete_is_known None words j s xs p h n = tt
 complete_is_known (Some bytes) words j s xs p h n = λ t. inl (input_ends (meaning_of j) bytes s xs p (lawful_of j) t (answer_is_of_job words bytes j s xs p n h))
-
--- or there was no memory
-pub memory_is_known : (known : Option (List ℕ)) (j : Job) (s : Status) → s ≡ NoMemory → IfSome known (λ bytes. IsInput j bytes → MayEnd j s ⊎ (s ≡ NoMemory))
-memory_is_known None j s e = tt
-memory_is_known (Some bytes) j s e = λ t. inr e

@@ -14,7 +14,7 @@ use Rattle.job_sphere.specs.Answers.{IsObstructed, ComesTo, IsSearched, IsSphere
 use Rattle.job_sphere.specs.Laws.{NoIsSound, YesIsCertified, VerdictTellsSearch, CyclesAreDecided}
 use Rattle.job_sphere.proofs.Obstructed.{no_obstacle, same_line}
 use Rattle.job_sphere.proofs.Ends.{descents_of, not_both, ok_of}
-use Rattle.job_sphere.proofs.Reported.{cycle_is_found, descent_report_is_one}
+use Rattle.report_text.proofs.Searches.{cycle_is_found, descent_report_is_one}
 
 -- ---- one answer where no round is made
 

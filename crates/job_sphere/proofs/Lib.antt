@@ -1,4 +1,3 @@
-mod Reported
 mod Ends
 mod Obstructed
 mod Searched

@@ -23,7 +23,9 @@ use Rattle.job_replay.specs.Readings.{behind, claimed}
 use Rattle.job_sphere.specs.Texts.{found_text}
 use Rattle.job_sphere.specs.Answers.{ComesTo, Searches, ShowsHistory, IsCertificate, meaning}
 use Rattle.job_sphere.proofs.Ends.{descents_of, ok_of}
-use Rattle.job_sphere.proofs.Reported.{report_is_shown, end_is_minimal, certified_is_short}
+use Rattle.report_text.proofs.Lengths.{certificate_is_short}
+use Rattle.report_text.proofs.Searches.{end_is_minimal}
+use Rattle.report_text.proofs.Shown.{report_is_shown}
 
 history_of : (plan : Numbers) (k : Space) (s : Status) (xs : List ℕ) (r : ReportView) → KeepsTextLimits k → KeepsLimits plan → ComesTo k plan r s xs → ShowsHistory k plan r
 history_of plan k s xs r limits numbers c = record {
@@ -37,7 +39,7 @@ abbrev certified_tells : (k : Space) (flips : List Flip) → KeepsTextLimits k �
 certified_tells k flips limits few fit shows =
     let r : IsReadAgain k flips = certified_is_read k flips limits fit in
     record {
-      short = certified_is_short k flips limits fit few;
+      short = certificate_is_short k flips limits fit few;
       start = k;
       claim = Sphere flips;
       input = ap (behind (certified k flips)) r.complex ∙ ap (claimed k) r.certificate;

@@ -1,18 +1,17 @@
 -- The places and the names of their labels.
-use Rattle.std.proofs.Common.{◌≡◌, ℕ, ◌+◌, ◌-◌, ◌<◌, ◌≤◌, zero, suc, get_or, Bool, true, false, nat_eq, cond, ◌||◌, ◌&&◌, inl, inr, List, [], ◌∷◌, ◌++◌, length, length-append, Some, sym, ◌∙◌, ap, refl, subst, arith}
+use Rattle.std.proofs.Common.{◌≡◌, ℕ, ◌+◌, ◌<◌, ◌≤◌, zero, suc, get_or, Bool, true, false, nat_eq, cond, ◌||◌, ◌&&◌, List, [], ◌∷◌, ◌++◌, length, length-append, Some, sym, ◌∙◌, ap, refl, subst, arith}
 use Rattle.std.specs.List.{AllByRecursion, list_all, flat_map}
 use Rattle.std.specs.List.Sorted.{IsStrictlySortedBy}
 use Rattle.std.specs.Ordering.{nat_cmp}
 use Rattle.std.specs.Cmp.{first_so, second_so}
 use Rattle.std.specs.Cmp.Derive.{both_true}
 use Rattle.std.specs.declared.cmp.Ordering.TheVariants.{Less}
-use Rattle.std.proofs.lemmas.Bool.{true≢false, cases_lt}
-use Rattle.std.proofs.lemmas.Bool.Decides.{nat_tests}
+use Rattle.std.proofs.lemmas.Bool.{true≢false}
 use Rattle.std.proofs.lemmas.Cmp.{nat_cmp_total}
 use Rattle.std.proofs.lemmas.List.Folds.{list_any-append}
-use Rattle.complex_core.specs.Labels.{has, IsRising}
+use Rattle.complex_core.specs.Labels.{has}
 use Rattle.complex_core.specs.Spaces.{Space, IsComplex}
-use Rattle.complex_core.specs.Maps.{takes, at, turned, numbered, takes_all, names_of, used, greatest, next_after}
+use Rattle.complex_core.specs.Maps.{takes, at, turned, takes_all, names_of, used, greatest, next_after}
 use Rattle.flip_world.specs.declared.event.Event.{Event}
 use Rattle.flip_world.specs.declared.event.Event.TheVariants as event
 use Rattle.trace_text.specs.Traces.{Trace, names, is_name, IsTraceEvent}
@@ -22,10 +21,10 @@ use Rattle.flip_rules.specs.declared.flip.Flip.{Flip}
 use Rattle.star_laws.specs.Stars.{Rises, star, flips_touch}
 use Rattle.star_laws.proofs.ReplayStars.{others_replay}
 use Rattle.complex_core.proofs.Sets.{above_cons, above_head, above_tail, above_lower, sorted_none}
-use Rattle.complex_core.proofs.Laws.{each_has, or_left, or_right, nat_eq_is}
 use Rattle.complex_core.proofs.Pairs.{takes-turned}
-use Rattle.complex_core.proofs.Places.{at_least_place}
-use Rattle.complex_core.proofs.Renaming.{Named, named}
+use Rattle.complex_core.proofs.Places.{length_numbered, length_next, few_used, place_named}
+use Rattle.complex_core.proofs.Renaming.{Named, named, each_label}
+use Rattle.complex_core.proofs.Members.{passes_has}
 
 pub none_at : (ps : List (ℕ × ℕ)) (x : ℕ) → (takes ps x ≡ true → ⊥) → 0 ≡ at ps x
 none_at [] x h = refl
@@ -61,18 +60,6 @@ has_places t ns places shown i e en ep es l is all =
 
 -- ---- how many places there are
 
-length_numbered : (k : ℕ) (xs : List ℕ) → length (numbered k xs) ≡ length xs
-length_numbered k [] = refl
-length_numbered k (x ∷ xs) = let e : length (numbered (k + 1) xs) ≡ length xs = length_numbered (k + 1) xs in omega (arith, e)
-
-length_next : (n room : ℕ) → length (next_after n room) ≡ room
-length_next n zero = refl
-length_next n (suc room) = let e : length (next_after (n + 1) room) ≡ room = length_next (n + 1) room in omega (arith, e)
-
-few_used : (xs : List ℕ) → IsRising xs → length xs ≤ greatest xs
-few_used [] s = omega arith
-few_used (x ∷ xs) s = let l : 0 + (length (x ∷ xs) - 1) + 1 ≤ get_or (x ∷ xs) (length (x ∷ xs) - 1) 0 = at_least_place 0 (x ∷ xs) (length (x ∷ xs) - 1) s (omega arith) in omega (arith, l)
-
 front_rises : (low : ℕ) (xs ys : List ℕ) → IsStrictlySortedBy nat_cmp (low ∷ xs ++ ys) → IsStrictlySortedBy nat_cmp (low ∷ xs)
 front_rises low [] ys s = above_cons nat_cmp low [] tt (sorted_none nat_cmp)
 front_rises low (x ∷ xs) ys s =
@@ -86,13 +73,6 @@ few_names k room ns shown h l en es =
     omega (arith, ap (λ (ps : List (ℕ × ℕ)). length ps) (es ∙ en), length_numbered 1 (used k.facets ++ next_after (greatest (used k.facets)) room), length-append (used k.facets) (next_after (greatest (used k.facets)) room), length_next (greatest (used k.facets)) room, few_used (used k.facets) (front_rises 0 (used k.facets) _ n.labels), l)
 
 -- ---- each place has a name
-
-place_named : (k : ℕ) (xs : List ℕ) (p : ℕ) → k ≤ p → p < k + length xs → takes (numbered k xs) p ≡ true
-place_named k [] p low high = absurd (omega (arith, low, high))
-place_named k (x ∷ xs) p low high = elim (cases_lt k p) [
-  | inl l ↦ or_right (nat_eq k p) (takes (numbered (k + 1) xs) p) (place_named (k + 1) xs p (omega (arith, l)) (omega (arith, high)))
-  | inr l ↦ let same : nat_eq k p ≡ true = grind (arith, nat_tests) in or_left (nat_eq k p) (takes (numbered (k + 1) xs) p) same
-]
 
 pub name_taken : (fs : List (List ℕ)) (room p : ℕ) → 0 < p → p ≤ length (names_of fs room) → takes (names_of fs room) p ≡ true
 name_taken fs room p low high = let xs = used fs ++ next_after (greatest (used fs)) room in place_named 1 xs p low (omega (arith, high, length_numbered 1 xs))
@@ -114,33 +94,17 @@ used_star (f ∷ fs) x =
       | false ↦ used_star fs x
     ]
 
-each_passes : (q : ℕ → Bool) (xs : List ℕ) (x : ℕ) → list_all q xs ≡ true → has xs x ≡ true → q x ≡ true
-each_passes q [] x all h = absurd (true≢false (sym h))
-each_passes q (y ∷ ys) x all h =
-    elim (nat_eq y x) as (λ b. nat_eq y x ≡ b → (b || has ys x) ≡ true → q x ≡ true) [
-      | true ↦ λ e _. ap q (sym (nat_eq_is y x e)) ∙ first_so (q y) (list_all q ys) all
-      | false ↦ λ _ g. each_passes q ys x (second_so (q y) (list_all q ys) all) g
-    ] refl h
-
 used_passes : (q : ℕ → Bool) (fs : List (List ℕ)) (x : ℕ) → list_all (λ f. list_all q f) fs ≡ true → has (flat_map (λ f. f) fs) x ≡ true → q x ≡ true
 used_passes q [] x all h = absurd (true≢false (sym h))
 used_passes q (f ∷ fs) x all h =
     elim (has f x) as (λ b. has f x ≡ b → (b || has (flat_map (λ g. g) fs) x) ≡ true → q x ≡ true) [
-      | true ↦ λ e _. each_passes q f x (first_so (list_all q f) (list_all (λ g. list_all q g) fs) all) e
+      | true ↦ λ e _. passes_has q f x (first_so (list_all q f) (list_all (λ g. list_all q g) fs) all) e
       | false ↦ λ _ g. used_passes q fs x (second_so (list_all q f) (list_all (λ g. list_all q g) fs) all) g
     ] refl (sym (list_any-append (λ y. nat_eq y x) f (flat_map (λ g. g) fs)) ∙ h)
 
-passes_used : (q : ℕ → Bool) (fs : List (List ℕ)) → ((x : ℕ) → has (flat_map (λ f. f) fs) x ≡ true → q x ≡ true) → list_all (λ f. list_all q f) fs ≡ true
-passes_used q [] h = refl
-passes_used q (f ∷ fs) h =
-    let parts : (x : ℕ) → has (f ++ flat_map (λ g. g) fs) x ≡ (has f x || has (flat_map (λ g. g) fs) x) = λ x. list_any-append (λ y. nat_eq y x) f (flat_map (λ g. g) fs) in
-    both_true
-    (each_has q f (λ x t. h x (parts x ∙ or_left (has f x) (has (flat_map (λ g. g) fs) x) t)))
-    (passes_used q fs (λ x t. h x (parts x ∙ or_right (has f x) (has (flat_map (λ g. g) fs) x) t)))
-
 -- where the labels of a complex and of flips have names, so have those of the complex after the flips
 pub replay_named : (ns : List (ℕ × ℕ)) (k m : Space) (flips : List Flip) → Rises k → replay k flips ≡ Some m → takes_all ns k.facets ≡ true → ((p : ℕ) → flips_touch p flips ≡ true → takes ns p ≡ true) → takes_all ns m.facets ≡ true
-replay_named ns k m flips r e all touched = passes_used (takes ns) m.facets (λ x h.
+replay_named ns k m flips r e all touched = each_label (takes ns) m.facets (λ x h.
     elim (flips_touch x flips) as (λ b. flips_touch x flips ≡ b → takes ns x ≡ true) [
       | true ↦ λ t. touched x t
       | false ↦ λ t. used_passes (takes ns) k.facets x all (used_star k.facets x ∙ ap (λ fs. is_more fs) (sym (others_replay k m flips x r e t)) ∙ sym (used_star m.facets x) ∙ h)

@@ -10,15 +10,18 @@ use Rattle.flip_world.specs.declared.event.Told.{Told}
 use Rattle.flip_world.specs.declared.event.Refused.{Refused}
 use Rattle.flip_world.specs.declared.event.StepFault.{StepFault}
 use Rattle.flip_world.specs.declared.event.StepFault.TheVariants as fault
-use Rattle.flip_world.specs.Cores.{Core, IsWithin, pending_of}
+use Rattle.flip_world.specs.Cores.{Core, pending_of}
 use Rattle.flip_world.specs.Steps.{Step, StepRefused}
 use Rattle.flip_world.specs.Runs.{IsEvent, Turn, IsRun}
 use Rattle.flip_rules.specs.Entries.{JournalEntry}
 use Rattle.job_answer.specs.Lines.{flip_line}
 use Rattle.trace_text.specs.Traces.{Trace, names}
-use Rattle.job_trace.specs.TraceTexts.{named_flip, answer_line, answer_lines, pending_line, pending_lines, entry_lines}
+use Rattle.flip_names.specs.Names.{named_flip}
+use Rattle.job_trace.specs.TraceTexts.{answer_line, answer_lines, pending_line, pending_lines, entry_lines}
 use Rattle.job_trace.specs.Traced.{placed, opened_for, end_of, is_told, is_nothing}
 use Rattle.job_trace.specs.TraceRuns.{entry_line, IsTurn, HasRun}
+use Rattle.complex_core.proofs.Members.{taken_more}
+use Rattle.line_text.proofs.Joined.{flat_push}
 
 -- ---- lists with one more member
 
@@ -42,9 +45,6 @@ append_none : (bs : List ℕ) → bs ++ [] ≡ bs
 append_none [] = refl
 append_none (b ∷ bs) = ap (λ cs. b ∷ cs) (append_none bs)
 
-taken : {X : Type 0} (xs : List X) (i : ℕ) (x : X) → i < length xs → x ≡ get_or xs i x → take (i + 1) xs ≡ take i xs ++ x ∷ []
-taken xs i x l e = take_more xs i x l ∙ ap (λ y. take i xs ++ y ∷ []) (sym e)
-
 -- ---- turns
 
 run_more : (c : Core) (ts : List Turn) (t : Turn) → IsRun c ts → IsEvent t.event → Step (end_of c ts) t.event t.answer t.next → IsRun c (ts ++ t ∷ [])
@@ -62,9 +62,6 @@ lines_more names number (u ∷ us) t =
     ap (λ bs. answer_line names number u.answer ++ bs) (lines_more names (number + 1) us t ∙ ap (λ n. answer_lines names (number + 1) us ++ answer_line names n t.answer) e)
     ∙ sym (append_assoc (answer_line names number u.answer) (answer_lines names (number + 1) us) (answer_line names (number + length (u ∷ us)) t.answer))
 
-pub no_turns : (t : Trace) (text : List ℕ) (c : Core) → text ≡ [] → c ≡ opened_for t → HasRun t [] true text c
-no_turns t text c e o = record { turns = []; events_are = refl; run = tt; last_is = o; accepted_is = refl; says = e }
-
 -- one more event was run
 pub one_more : (t : Trace) (events : List Event) (place : ℕ) (e made : Event) (before now all : Bool) (text new : List ℕ) (c next : Core) → HasRun t (take place events) before text c → place < length events → e ≡ get_or events place e → made ≡ placed (names t) e → IsEvent made → IsTurn (names t) (place + 1) c made next now text new → all ≡ (before && now) → HasRun t (take (place + 1) events) all new next
 one_more t events place e made before now all text new c next h l e_is made_is is_event turn all_is = record {
@@ -73,7 +70,7 @@ one_more t events place e made before now all text new c next h l e_is made_is i
       map_more (λ (u : Turn). u.event) h.turns last
       ∙ (λ i. h.events_are i ++ made_is i ∷ [])
       ∙ sym (map_more (placed (names t)) (take place events) e)
-      ∙ ap (map (placed (names t))) (sym (taken events place e l e_is));
+      ∙ ap (map (placed (names t))) (sym (taken_more events place e l e_is));
   run = run_more (opened_for t) h.turns last h.run is_event (let P : Core → Type 0 = λ d. Step d made turn.answer next in subst P h.last_is turn.step);
   last_is = sym (end_more (opened_for t) h.turns last);
   accepted_is = all_is ∙ (λ i. h.accepted_is i && turn.accepted_is i) ∙ sym (all_more (λ (u : Turn). is_told u.answer) h.turns last);
@@ -93,9 +90,6 @@ pub one_more_named : (t : Trace) (ns : List (ℕ × ℕ)) (shown : List Event) (
 one_more_named t ns shown place e made before now all text new c next en es h l e_is made_is is_event turn all_is =
     let P : List (ℕ × ℕ) → Type 0 = λ ms. IsTurn ms (place + 1) c made next now text new in
     one_more t t.events place e made before now all text new c next h (omega (arith, l, ap (λ (events : List Event). length events) es)) (e_is ∙ ap (λ (events : List Event). get_or events place e) es) (made_is ∙ ap (λ ms. placed ms e) en) is_event (subst P en turn) all_is
-
-pub roomy : (count most : ℕ) (c : Core) → IsWithin count c → count < most → IsWithin most c
-roomy count most c w l = record { journal = omega (arith, w.journal, l); pending = λ worker. omega (arith, w.pending worker, l) }
 
 -- ---- workers with pending flips
 
@@ -149,13 +143,9 @@ nothing_next c seat workers fs before all e l flips so_far both =
 
 -- ---- one more piece of a text
 
-flat_more : {X : Type 0} (f : X → List ℕ) (xs : List X) (x : X) → flat_map f (xs ++ x ∷ []) ≡ flat_map f xs ++ f x
-flat_more f [] x = append_none (f x)
-flat_more f (y ∷ ys) x = ap (λ bs. f y ++ bs) (flat_more f ys x) ∙ sym (append_assoc (f y) (flat_map f ys) (f x))
-
 pub pieces_more : {X : Type 0} (f : X → List ℕ) (xs : List X) (i : ℕ) (x : X) (old text new : List ℕ) → i < length xs → x ≡ get_or xs i x → text ≡ old ++ flat_map f (take i xs) → new ≡ text ++ f x → new ≡ old ++ flat_map f (take (i + 1) xs)
 pieces_more f xs i x old text new l e so_far says =
-    says ∙ ap (λ bs. bs ++ f x) so_far ∙ append_assoc old (flat_map f (take i xs)) (f x) ∙ ap (λ bs. old ++ bs) (sym (ap (flat_map f) (taken xs i x l e) ∙ flat_more f (take i xs) x))
+    says ∙ ap (λ bs. bs ++ f x) so_far ∙ append_assoc old (flat_map f (take i xs)) (f x) ∙ ap (λ bs. old ++ bs) (sym (ap (flat_map f) (taken_more xs i x l e) ∙ flat_push f (take i xs) x))
 
 line_and_rest : (a b c d e f rest : List ℕ) → (a ++ (b ++ (c ++ (d ++ (e ++ (f ++ 10 ∷ [])))))) ++ rest ≡ a ++ (b ++ (c ++ (d ++ (e ++ (f ++ 10 ∷ rest)))))
 line_and_rest a b c d e f rest =

@@ -2,7 +2,8 @@
 use Rattle.std.specs.Prelude.{ℕ, ◌+◌, Bool, if◌then◌else◌, List, [], ◌∷◌, ◌++◌, length, codes, Result, Ok, Err}
 use Rattle.std.specs.List.{flat_map}
 use Rattle.std.specs.Fmt.{decimal}
-use Rattle.complex_core.specs.Maps.{at, face_image, image}
+use Rattle.complex_core.specs.Maps.{at, image}
+use Rattle.flip_names.specs.Names.{named_flip}
 use Rattle.flip_rules.specs.declared.flip.Flip.{Flip}
 use Rattle.flip_rules.specs.Entries.{JournalEntry}
 use Rattle.flip_world.specs.declared.event.Told.{Told}
@@ -11,9 +12,6 @@ use Rattle.flip_world.specs.declared.event.Refused.TheVariants as refused
 use Rattle.flip_world.specs.Cores.{Core, complex_of}
 use Rattle.flip_world.specs.Runs.{Turn}
 use Rattle.job_answer.specs.Lines.{complex_line, flip_line, reason_name}
-
-abbrev pub named_flip : List (ℕ × ℕ) → Flip → Flip
-named_flip names f = record { a = face_image names f.a; b = face_image names f.b }
 
 -- why an event was refused; the journal's place 0 has the name 0
 abbrev pub refusal_text : List (ℕ × ℕ) → Refused → List ℕ

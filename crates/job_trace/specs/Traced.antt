@@ -11,7 +11,8 @@ use Rattle.flip_world.specs.Cores.{Core, opened}
 use Rattle.flip_world.specs.Runs.{Turn, IsRun}
 use Rattle.flip_world.specs.Serials.{Serial}
 use Rattle.trace_text.specs.Traces.{Trace, names, IsTraceEvent}
-use Rattle.job_trace.specs.TraceTexts.{named_flip, trace_answer, history_lines}
+use Rattle.flip_names.specs.Names.{named_flip}
+use Rattle.job_trace.specs.TraceTexts.{trace_answer, history_lines}
 use Rattle.job_answer.specs.declared.status.Status.{Status}
 use Rattle.job_answer.specs.declared.status.Status.TheVariants.{Yes, No}
 

@@ -1,17 +1,17 @@
 // Places and their names.
 ghost use Rattle.std.specs.Prelude.{◌≡◌, List, ℕ, IfOk, true};
 ghost use Rattle.std.specs.List.{list_all};
-ghost use Rattle.std.specs.Option.{SomeIff};
 ghost use Rattle.std.specs.Ordering.{nat_cmp};
 ghost use Rattle.complex_core.specs.Labels.{IsFace};
 ghost use Rattle.complex_core.specs.Rising.{rising};
 ghost use Rattle.complex_core.specs.Maps.{at, takes, face_image, turned};
 ghost use Rattle.flip_world.specs.Runs.{IsEvent};
-ghost use Rattle.job_trace.specs.TraceTexts.{named_flip};
+ghost use Rattle.flip_names.specs.Names.{named_flip};
 ghost use Rattle.job_trace.specs.Traced.{placed};
 ghost use Rattle.job_trace.specs.TraceRuns.{HasPlaces};
 
-use complex_core::{Face, VertexMap};
+use complex_core::VertexMap;
+use flip_names::named_flip;
 use flip_rules::Flip;
 use flip_world::Event;
 use std::alloc::{AllocError, Global};
@@ -50,28 +50,6 @@ fn sort_numbers(numbers: &mut Vec<u16>)
     numbers.dedup();
 }
 
-// What a map makes of a side of a flip, where each label has a pair.
-fn image_of(map: &VertexMap, side: &Face) -> Option<Face>
-    ensures { SomeIff result (list_all (takes map.now) side.now ≡ true) (face_image map.now side.now) }
-{
-    let mut image = Face::new();
-    for label in side.labels().as_slice() {
-        image = image.with(map.get(*label)?)?;
-    }
-    Some(image)
-}
-
-// A side of a flip on the places of its labels.
-fn placed_side(places: &VertexMap, side: &Face) -> Face
-    requires { list_all (takes places.now) side.now ≡ true }
-    ensures { result ≡ face_image places.now side.now }
-{
-    match image_of(places, side) {
-        Some(image) => image,
-        None => unreachable!(),
-    }
-}
-
 // A flip on the places of its labels.
 fn placed_flip(places: &VertexMap, flip: &Flip) -> Flip
     requires first { list_all (takes places.now) flip.now.a ≡ true }
@@ -80,11 +58,12 @@ fn placed_flip(places: &VertexMap, flip: &Flip) -> Flip
     ensures first { IsFace result.a }
     ensures second { IsFace result.b }
 {
-    let a = placed_side(places, &flip.a);
-    let b = placed_side(places, &flip.b);
-    let _first = a.len();
-    let _second = b.len();
-    Flip { a, b }
+    let Some(placed) = named_flip(flip, places) else {
+        unreachable!()
+    };
+    let _first = placed.a.len();
+    let _second = placed.b.len();
+    placed
 }
 
 /// An event on the places of its labels.

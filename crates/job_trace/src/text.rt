@@ -4,7 +4,8 @@ ghost use Rattle.std.specs.List.{flat_map, list_all};
 ghost use Rattle.complex_core.specs.Maps.{takes_all};
 ghost use Rattle.flip_world.specs.Cores.{complex_of};
 ghost use Rattle.job_answer.specs.Lines.{flip_line};
-ghost use Rattle.job_trace.specs.TraceTexts.{named_flip, refusal_text, answer_line, pending_line, pending_lines, entry_lines, journal_lines, history_lines, verdict_line};
+ghost use Rattle.flip_names.specs.Names.{named_flip};
+ghost use Rattle.job_trace.specs.TraceTexts.{refusal_text, answer_line, pending_line, pending_lines, entry_lines, journal_lines, history_lines, verdict_line};
 ghost use Rattle.job_trace.specs.Traced.{is_nothing};
 ghost use Rattle.job_trace.specs.TraceRuns.{entry_line};
 

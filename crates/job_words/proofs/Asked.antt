@@ -162,9 +162,6 @@ few_planned n few = ap (λ t. if t then Err Product else Ok n) (le-ltb _ _ few)
 many_planned : (n : Numbers) → 250000 < all_tries n → planned n ≡ Err Product
 many_planned n many = ap (λ t. if t then Err Product else Ok n) (lt-ltb _ _ many)
 
-any_kind : (ko : Option Kind) (plan : Result Numbers UsageFault) (dim draws : ℕ) → job_with None ko plan dim draws ≡ Err Name
-any_kind ko plan dim draws = refl
-
 no_kind_with : (jo : Option JobName) (plan : Result Numbers UsageFault) (dim draws : ℕ) → job_with jo None plan dim draws ≡ Err Name
 no_kind_with None plan dim draws = refl
 no_kind_with (Some job) plan dim draws = refl

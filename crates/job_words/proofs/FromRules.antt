@@ -1,8 +1,8 @@
 -- What the rules of a command say of its arguments.
-use Rattle.std.proofs.Common.{zero, suc, ◌≡◌, ◌∙◌, ◌<◌, ◌≤◌, ap, ◌&&◌, ℕ, Bool, true, false, not, List, [], ◌∷◌, length, is_some, Option, Some, None, refl, sym, arith, map}
+use Rattle.std.proofs.Common.{zero, suc, ◌≡◌, ◌∙◌, ◌<◌, ◌≤◌, ap, ◌&&◌, ℕ, Bool, true, false, List, [], ◌∷◌, length, is_some, Option, Some, None, refl, arith, map}
 use Rattle.std.specs.List.{All, slice_index_or, list_all}
 use Rattle.std.specs.Prelude.{slice_get}
-use Rattle.std.proofs.lemmas.Bool.{true≢false, eqb-true}
+use Rattle.std.proofs.lemmas.Bool.{true≢false, eqb-true, not-true, and_parts}
 use Rattle.std.proofs.lemmas.List.{nil_from_length, length-map}
 use Rattle.clap.specs.Facts.{args_of, least_values, unwrap_or_range}
 use Rattle.clap.specs.Built.{IsPlainArg}
@@ -15,14 +15,6 @@ use Rattle.clap.specs.declared.builder.arg.Arg.{Arg}
 use Rattle.clap.specs.declared.builder.command.Command.{Command}
 use Rattle.clap.specs.declared.builder.command.Command.TheViews.{out-Command}
 use Rattle.job_words.proofs.Options.{HasOption, HasWanted, IsSimpleCommand, only_at}
-
-and_true : (a b : Bool) → (a && b) ≡ true → (a ≡ true) × (b ≡ true)
-and_true true b e = (refl, e)
-and_true false b e = absurd (true≢false (sym e))
-
-not_true : (a : Bool) → not a ≡ true → a ≡ false
-not_true true e = absurd (true≢false (sym e))
-not_true false e = refl
 
 none_from : {X : Type 0} (o : Option X) → is_some o ≡ false → o ≡ None
 none_from None e = refl
@@ -42,18 +34,18 @@ record IsBare (a : Arg) : Type 0 where
 
 bare : (a : Arg) → is_simple_arg a ≡ true → is_free_arg a ≡ true → IsBare a
 bare a simple free =
-    let s1 = and_true _ _ simple in
-    let s2 = and_true _ _ s1.1 in
-    let s3 = and_true _ _ s2.1 in
-    let s4 = and_true _ _ s3.1 in
-    let f1 = and_true _ _ free in
-    let f2 = and_true _ _ f1.1 in
+    let s1 = and_parts _ _ simple in
+    let s2 = and_parts _ _ s1.1 in
+    let s3 = and_parts _ _ s2.1 in
+    let s4 = and_parts _ _ s3.1 in
+    let f1 = and_parts _ _ free in
+    let f2 = and_parts _ _ f1.1 in
     record {
       overrides = nil_from _ s1.0;
       default_ifs = nil_from _ s2.0;
       groups = nil_from _ s3.0;
-      delim = none_from _ (not_true _ s4.0);
-      exclusive = not_true _ f1.0;
+      delim = none_from _ (not-true _ s4.0);
+      exclusive = not-true _ f1.0;
       conflicts = nil_from _ f2.0;
     }
 
@@ -98,10 +90,10 @@ all_plain xs rs e h = go xs (ap (list_all is_bare) e ∙ h)
     go : (xs : List Arg) → list_all is_bare (map rule_of xs) ≡ true → All IsPlainArg xs
     go [] t k d lt = absurd (omega arith)
     go (x ∷ xs) t zero d lt =
-        let one = and_true _ _ (and_true (is_bare (rule_of x)) _ t).0 in
+        let one = and_parts _ _ (and_parts (is_bare (rule_of x)) _ t).0 in
         let b = bare x one.0 one.1 in
         (b.exclusive, b.conflicts, b.overrides, b.groups)
-    go (x ∷ xs) t (suc k) d lt = go xs (and_true (is_bare (rule_of x)) _ t).1 k d (omega arith)
+    go (x ∷ xs) t (suc k) d lt = go xs (and_parts (is_bare (rule_of x)) _ t).1 k d (omega arith)
 
 least_one : (a : Arg) → a.num_vals ≡ None → 1 ≤ least_values a
 least_one a e = ap_le (ap (λ (o : Option ValueRange). (unwrap_or_range o).start_inclusive) e)
@@ -121,7 +113,7 @@ pub option_from : (c : Command) (rs : List Rule) (k : ℕ) (r : Rule) (q : Value
 option_from c rs k r q rules at tests set range parser default only =
     let h = rule_at (args_of c) rs k r rules at in
     let a = h.arg in
-    let b = bare a (ap (λ (x : Rule). x.is_simple) h.rule ∙ (and_true _ _ tests).0) (ap (λ (x : Rule). x.is_free) h.rule ∙ (and_true _ _ tests).1) in
+    let b = bare a (ap (λ (x : Rule). x.is_simple) h.rule ∙ (and_parts _ _ tests).0) (ap (λ (x : Rule). x.is_free) h.rule ∙ (and_parts _ _ tests).1) in
     record {
       arg = a;
       inside = h.inside;
@@ -143,7 +135,7 @@ pub wanted_from : (c : Command) (rs : List Rule) (k : ℕ) (r : Rule) → map ru
 wanted_from c rs k r rules at tests set range wanted only negates =
     let h = rule_at (args_of c) rs k r rules at in
     let a = h.arg in
-    let b = bare a (ap (λ (x : Rule). x.is_simple) h.rule ∙ (and_true _ _ tests).0) (ap (λ (x : Rule). x.is_free) h.rule ∙ (and_true _ _ tests).1) in
+    let b = bare a (ap (λ (x : Rule). x.is_simple) h.rule ∙ (and_parts _ _ tests).0) (ap (λ (x : Rule). x.is_free) h.rule ∙ (and_parts _ _ tests).1) in
     record {
       arg = a;
       inside = h.inside;
@@ -161,7 +153,7 @@ wanted_from c rs k r rules at tests set range wanted only negates =
 
 pub simple_from : (c : Command) (rs : List Rule) → map rule_of (args_of c) ≡ rs → list_all is_bare rs ≡ true → (app_of c).top.is_plain ≡ true → IsSimpleCommand c
 simple_from c rs rules bare plain =
-    let p1 = and_true _ _ plain in
-    let p2 = and_true _ _ p1.1 in
-    let p3 = and_true _ _ p2.1 in
-    record { plain = (all_plain (args_of c) rs rules bare, nil_from _ p1.0); globals = not_true _ p3.0 }
+    let p1 = and_parts _ _ plain in
+    let p2 = and_parts _ _ p1.1 in
+    let p3 = and_parts _ _ p2.1 in
+    record { plain = (all_plain (args_of c) rs rules bare, nil_from _ p1.0); globals = not-true _ p3.0 }

@@ -1,10 +1,10 @@
 -- After a parse an option with a default has a value, which its parser takes.
-use Rattle.std.proofs.Common.{zero, suc, ◌≡◌, ◌∙◌, subst, ◌<◌, ◌≤◌, ap, ◌&&◌, ◌||◌, ℕ, Bool, true, false, not, List, [], ◌∷◌, length, is_some, Option, Some, None, refl, sym, inl, inr, arith, map, codes}
+use Rattle.std.proofs.Common.{zero, suc, ◌≡◌, ◌∙◌, subst, ◌<◌, ◌≤◌, ap, ◌||◌, ℕ, Bool, true, false, not, List, [], ◌∷◌, length, is_some, Option, Some, None, refl, sym, inl, inr, arith, map, codes}
 use Rattle.std.specs.List.{All, slice_index_or, list_any}
 use Rattle.std.specs.Str.{bytes_eq}
 use Rattle.std.specs.Prelude.{find, option_and_then, option_map, slice_get}
 use Rattle.std.specs.Borrow.{Bor}
-use Rattle.std.proofs.lemmas.Bool.{true≢false}
+use Rattle.std.proofs.lemmas.Bool.{true≢false, not-true, or_parts, and_parts}
 use Rattle.std.proofs.lemmas.Slice.Eq.{bytes_eq-Decides}
 use Rattle.clap.specs.declared.builder.action.ArgAction.TheVariants.{Count, Set}
 use Rattle.clap.specs.declared.builder.value_parser.ValueParser.{ValueParser}
@@ -23,32 +23,20 @@ use Rattle.clap.specs.Words.{Text}
 use Rattle.job_words.specs.Reads.{HasText, IsRead}
 use Rattle.job_words.proofs.Options.{HasOption, HasWanted, IsOption, IsOwn, IsSimpleCommand, only_at}
 
-or_false : (a b : Bool) → (a || b) ≡ false → (a ≡ false) × (b ≡ false)
-or_false true b e = absurd (true≢false e)
-or_false false b e = (refl, e)
-
-and_true : (a b : Bool) → (a && b) ≡ true → (a ≡ true) × (b ≡ true)
-and_true true b e = (refl, e)
-and_true false b e = absurd (true≢false (sym e))
-
-not_true : (a : Bool) → not a ≡ true → a ≡ false
-not_true true e = absurd (true≢false (sym e))
-not_true false e = refl
-
 -- an id that stands alone stands at its place
 not_any : (id : Text) (xs : List Arg) (j : ℕ) (e : Arg) → j < length xs → list_any (λ y. bytes_eq y id) (map (λ a. a.id.now) xs) ≡ false
     → bytes_eq (slice_index_or xs j e).id.now id ≡ true → true ≡ false
 not_any id [] j e lt none same = absurd (omega arith)
-not_any id (x ∷ xs) zero e lt none same = sym same ∙ (or_false (bytes_eq x.id.now id) _ none).0
-not_any id (x ∷ xs) (suc j) e lt none same = not_any id xs j e (omega arith) (or_false (bytes_eq x.id.now id) _ none).1 same
+not_any id (x ∷ xs) zero e lt none same = sym same ∙ (or_parts (bytes_eq x.id.now id) _ none).0
+not_any id (x ∷ xs) (suc j) e lt none same = not_any id xs j e (omega arith) (or_parts (bytes_eq x.id.now id) _ none).1 same
 
 pub at_place : (id : Text) (k : ℕ) (xs : List Arg) (j : ℕ) (e : Arg) → j < length xs → only_at id k (map (λ a. a.id.now) xs) ≡ true
     → bytes_eq (slice_index_or xs j e).id.now id ≡ true → j ≡ k
 at_place id k [] j e lt only same = absurd (omega arith)
 at_place id zero (x ∷ xs) zero e lt only same = refl
-at_place id zero (x ∷ xs) (suc j) e lt only same = absurd (true≢false (not_any id xs j e (omega arith) (not_true _ only) same))
-at_place id (suc k) (x ∷ xs) zero e lt only same = absurd (true≢false (sym same ∙ not_true _ (and_true _ _ only).0))
-at_place id (suc k) (x ∷ xs) (suc j) e lt only same = ap suc (at_place id k xs j e (omega arith) (and_true (not (bytes_eq x.id.now id)) _ only).1 same)
+at_place id zero (x ∷ xs) (suc j) e lt only same = absurd (true≢false (not_any id xs j e (omega arith) (not-true _ only) same))
+at_place id (suc k) (x ∷ xs) zero e lt only same = absurd (true≢false (sym same ∙ not-true _ (and_parts _ _ only).0))
+at_place id (suc k) (x ∷ xs) (suc j) e lt only same = ap suc (at_place id k xs j e (omega arith) (and_parts (not (bytes_eq x.id.now id)) _ only).1 same)
 
 -- an entry with an id is found
 found_at : (xs : List Entry) (id : Text) (i : ℕ) → i < length xs → ((d : Entry) → bytes_eq (slice_index_or xs i d).0.now id ≡ true)
@@ -218,8 +206,8 @@ same_bytes a b e = (bytes_eq-Decides a b).1 e
 -- the test of it
 pub own_by_test : (id : Text) → (bytes_eq id [] || (bytes_eq id (codes "help") || bytes_eq id (codes "version"))) ≡ false → IsOwn id
 own_by_test id h =
-    let first = or_false _ _ h in
-    let rest = or_false _ _ first.1 in
+    let first = or_parts _ _ h in
+    let rest = or_parts _ _ first.1 in
     record {
       some = λ e. absurd (true≢false (sym (same_bytes id [] e) ∙ first.0));
       help = λ e. absurd (true≢false (sym (same_bytes id (codes "help") e) ∙ rest.0));

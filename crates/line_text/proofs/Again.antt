@@ -1,5 +1,5 @@
 -- A flip that is written is read again.
-use Rattle.std.proofs.Common.{◌≡◌, ◌≤◌, ◌<◌, ◌+◌, ℕ, suc, Bool, true, false, ◌&&◌, List, [], ◌∷◌, ◌++◌, length, drop, Ok, refl, sym, ap, ◌∙◌, arith, append_assoc, length-append, nat_eq}
+use Rattle.std.proofs.Common.{◌≡◌, ◌≤◌, ◌<◌, ◌+◌, ℕ, suc, true, false, List, [], ◌∷◌, ◌++◌, length, drop, Ok, refl, sym, ap, ◌∙◌, arith, append_assoc, length-append, nat_eq}
 use Rattle.std.specs.List.{AllByRecursion, flat_map, list_all, prefix_len, take_while}
 use Rattle.std.specs.Fmt.{decimal}
 use Rattle.std.specs.Char.{digit_value}
@@ -11,7 +11,7 @@ use Rattle.std.proofs.lemmas.Fmt.{decimal_is_IsNumeral}
 use Rattle.std.proofs.lemmas.Bool.{ne_eqb}
 use Rattle.std.proofs.lemmas.List.{append-nil, drop_at, take_at}
 use Rattle.complex_core.specs.Labels.{has, with}
-use Rattle.complex_core.proofs.Faces.{less_cmp, put_after}
+use Rattle.complex_core.proofs.Faces.{less_cmp}
 use Rattle.complex_core.proofs.Sets.{above_head, above_tail}
 use Rattle.facet_text.specs.Tokens.{is_blank}
 use Rattle.facet_text.specs.Lines.{Item, is_solid, items, items_past, line_end, word}
@@ -22,6 +22,8 @@ use Rattle.line_text.specs.Labels.{allows}
 use Rattle.line_text.specs.Numbers.{begins_with_digit, is_digit, is_number}
 use Rattle.line_text.specs.Flips.{Reading, first_from, flip_at, is_bar, label_then, second_from}
 use Rattle.line_text.specs.Writing.{HasSides, flip_text, set_off, spaced}
+use Rattle.std.specs.Cmp.{first_so}
+use Rattle.facet_text.proofs.Again.{put_last, AtMost}
 
 -- ---- one word
 
@@ -84,18 +86,11 @@ number_first at n c rest small blank = let is = decimal_number n small in word_f
 
 -- ---- labels
 
-abbrev AtMost : ℕ → List ℕ → Type 0
-AtMost n side = AllByRecursion (λ x. x ≤ n) side
-
 none_equal : (n low : ℕ) (done : List ℕ) → low < n → AtMost low done → has done n ≡ false
 none_equal n low [] lt all = refl
 none_equal n low (x ∷ xs) lt all =
     let other : nat_eq x n ≡ false = ne_eqb x n (λ e. omega (arith, all.0)) in
     rw (other, none_equal n low xs lt all.1) refl
-
-put_last : (n low : ℕ) (done : List ℕ) → low < n → AtMost low done → with done n ≡ done ++ n ∷ []
-put_last n low [] lt all = refl
-put_last n low (x ∷ xs) lt all = put_after n x xs (omega (arith, all.0)) ∙ ap (λ (l : List ℕ). x ∷ l) (put_last n low xs lt all.1)
 
 at_most_push : (low n : ℕ) (done : List ℕ) → low < n → AtMost low done → AtMost n (done ++ n ∷ [])
 at_most_push low n [] lt all = (omega arith, tt)
@@ -132,10 +127,6 @@ second_label labels first done at n low c rest lt allowed all room blank =
     rw (space_first at (decimal n ++ c ∷ rest), number_first (at + 1) n c rest small blank)
     (label_passes labels (at + 1) n low done _ lt allowed all room ∙ rw put refl)
 
-left_of : (a b : Bool) → (a && b) ≡ true → a ≡ true
-left_of true b e = refl
-left_of false b e = e
-
 digit_low : (b : ℕ) → is_digit b ≡ true → b ≤ 57
 unfolding is_digit
 digit_low b h = grind arith
@@ -143,7 +134,7 @@ digit_low b h = grind arith
 not_bar : (text : List ℕ) → is_number text ≡ true → is_bar text ≡ false
 not_bar [] h = refl
 not_bar (b ∷ bs) h =
-    let low = digit_low b (left_of (is_digit b) (list_all is_digit bs) h) in
+    let low = digit_low b (first_so (is_digit b) (list_all is_digit bs) h) in
     let other : nat_eq b 124 ≡ false = ne_eqb b 124 (λ e. omega (arith, e, low)) in
     rw other refl
 
@@ -257,7 +248,7 @@ read_again labels before after f sides =
 
 pub number_begins : (ds : List ℕ) → 0 < length ds → is_number ds ≡ true → begins_with_digit ds ≡ true
 number_begins [] some number = absurd (omega arith)
-number_begins (d ∷ ds) some number = left_of (is_digit d) (list_all is_digit ds) number
+number_begins (d ∷ ds) some number = first_so (is_digit d) (list_all is_digit ds) number
 
 side_start : (labels : Labels) (side : List ℕ) (at : ℕ) (tail : List ℕ) → 0 < length side → AllByRecursion (λ n. allows labels n ≡ true) side
     → (text : List ℕ) × (more : List Item) × (items_past 0 at (flat_map spaced side ++ tail) ≡ word text at ∷ more) × (begins_with_digit text ≡ true)

@@ -5,7 +5,7 @@ use Rattle.complex_core.proofs.Faces.{with_new}
 use Rattle.line_text.specs.declared.label.Labels.{Labels}
 use Rattle.line_text.specs.Labels.{allows}
 
-positive : (labels : Labels) (n : ℕ) → allows labels n ≡ true → 0 < n
+pub positive : (labels : Labels) (n : ℕ) → allows labels n ≡ true → 0 < n
 unfolding allows
 positive labels n h = grind arith
 

@@ -1,14 +1,13 @@
 -- Walks, and how they put together chains.
 use Rattle.std.proofs.Common.{◌≡◌, ℕ, ◌<◌, Bool, true, false, not, List, [], ◌∷◌, ◌++◌, length, map, get_or, sym, ◌∙◌, ap, refl, subst}
 use mathlib.Core.List.{reverse}
-use Rattle.std.proofs.lemmas.List.{reverse-append}
+use Rattle.std.proofs.lemmas.List.{reverse-append, get_or_default}
 use Rattle.pseudo_test.specs.Ridges.{count}
-use Rattle.pseudo_test.proofs.Subsets.{clash}
-use Rattle.pseudo_test.proofs.Counted.{same_at}
 use Rattle.orient_test.specs.declared.search.Reached.{Reached}
 use Rattle.orient_test.specs.Signs.{odd, times, place, induced, IsOrientation, Orientable}
 use Rattle.orient_test.specs.Walks.{Step, IsStep, Walk, turn, turning, IsChain, IsClash}
 use Rattle.orient_test.specs.Spreads.{at, IsTree, Contradicts, CameFrom}
+use Rattle.complex_core.proofs.SubsetLists.{clash}
 
 -- ---- the product of signs
 
@@ -28,7 +27,7 @@ times_swap true false = refl
 times_swap false true = refl
 times_swap false false = refl
 
-cancel : (s u z : Bool) → times s u ≡ z → s ≡ times z u
+pub cancel : (s u z : Bool) → times s u ≡ z → s ≡ times z u
 cancel true true z e = ap (λ c. times c true) e
 cancel true false z e = ap (λ c. times c false) e
 cancel false true z e = ap (λ c. times c true) e
@@ -197,4 +196,4 @@ clash_made reached there back us vs chain facets t p q e d =
     odd_one false false = refl
 
 pub same_place : (reached : List Reached) (place : ℕ) (d : Reached) → place < length reached → get_or reached place d ≡ at reached place
-same_place reached place d l = same_at reached place d (record { facet = []; turned = false; from = 0 }) l
+same_place reached place d l = get_or_default reached place d (record { facet = []; turned = false; from = 0 }) l

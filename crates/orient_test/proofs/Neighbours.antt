@@ -14,12 +14,15 @@ use Rattle.complex_core.proofs.Sets.{above_head}
 use Rattle.complex_core.proofs.Laws.{has-with, same_sets_is, same_set_itself, listed-filter, nat_eq_is, nat_eq_same, or_left, or_right}
 use Rattle.pseudo_test.specs.Ridges.{IsRidge, count}
 use Rattle.pseudo_test.specs.Sides.{side_cmp, sides_of, sides, facet_of, run_of}
-use Rattle.pseudo_test.proofs.Subsets.{two, clash, without_gone, it_is, holds_without}
-use Rattle.pseudo_test.proofs.Sided.{run_is, set, with_back, dropped, lacks, pure_at, rising_sides}
+use Rattle.pseudo_test.proofs.Subsets.{it_is, holds_without}
+use Rattle.pseudo_test.proofs.Sided.{run_is, set, dropped, lacks, rising_sides}
 use Rattle.pseudo_test.proofs.Spreading.{with_can}
 use Rattle.orient_test.specs.Signs.{odd, times, place}
 use Rattle.orient_test.specs.Walks.{Step, IsStep, turn}
 use Rattle.orient_test.specs.Spreads.{IsNeighbour, NoNeighbour}
+use Rattle.complex_core.proofs.SubsetLists.{two, clash}
+use Rattle.complex_core.proofs.Members.{without_gone, with_back}
+use Rattle.complex_core.proofs.SetLists.{pure_at}
 
 -- a step over a ridge reaches one of the facets over it, but not the one where it began
 stepped : (fs : List (List ℕ)) (f : List ℕ) (s : Step) → IsStep fs f s → is_facet (over fs (without f s.left)) s.to ≡ true

@@ -5,18 +5,17 @@ use Rattle.std.specs.List.{AllByRecursion}
 use Rattle.std.specs.Ordering.{is_eq}
 use Rattle.std.specs.Cmp.Lexicographic.{pointwise, texts_ties}
 use Rattle.std.proofs.lemmas.Bool.{cases_lt}
-use Rattle.std.proofs.lemmas.List.{take_more}
+use Rattle.std.proofs.lemmas.List.{take_more, get_or_default}
 use Rattle.complex_core.specs.Labels.{face_cmp}
 use Rattle.complex_core.specs.Spaces.{is_facet}
 use Rattle.complex_core.proofs.Laws.{same_sets_is}
-use Rattle.pseudo_test.proofs.Subsets.{two, clash}
-use Rattle.pseudo_test.proofs.Counted.{same_at}
 use Rattle.orient_test.specs.declared.search.Reached.{Reached}
 use Rattle.orient_test.specs.Signs.{odd, times, place, induced, IsOrientation, Orientable, sign_of, turned, IsSign, OrientsBy, value, chosen}
 use Rattle.orient_test.specs.Walks.{Step, IsStep, turn}
 use Rattle.orient_test.specs.Spreads.{either, given, IsForced}
 use Rattle.orient_test.proofs.Chains.{step_back, is_back, opposite_sign}
 use Rattle.orient_test.proofs.Trees.{given_push, some_is, none_some}
+use Rattle.complex_core.proofs.SubsetLists.{two, clash}
 
 -- one more facet gets its sign
 pub sign_step : (rs : List Reached) (i : ℕ) (r : Reached) (old now next : List ℕ → Option Bool) → i < length rs → r ≡ get_or rs i r → ((f : List ℕ) → now f ≡ either (given (take i rs) f) (old f)) → ((f : List ℕ) → next f ≡ cond (is_eq (face_cmp r.facet f)) (Some r.turned) (now f)) → (f : List ℕ) → next f ≡ either (given (take (i + 1) rs) f) (old f)
@@ -51,7 +50,7 @@ forced_more fs rs old now o n h f c s i e = go (given rs f) refl (given rs s.to)
 pub covers_more : (fs : List (List ℕ)) (rs : List Reached) (old now : List ℕ → Option Bool) (n : ℕ) (start : List ℕ) → Covers fs old n → ((f : List ℕ) → now f ≡ either (given rs f) (old f)) → given rs start ≡ Some false → start ≡ get_or fs n start → n < length fs → Covers fs now (n + 1)
 covers_more fs rs old now n start c h g at_one ln k l m = elim (cases_lt k n) [
   | inl lt ↦ ap is_some (h (get_or fs k [])) ∙ kept (given rs (get_or fs k [])) (old (get_or fs k [])) (c k lt m)
-  | inr ge ↦ ap (λ v. is_some (now v)) (ap (λ j. get_or fs j []) (omega (arith, l, ge)) ∙ sym (at_one ∙ same_at fs n start [] ln)) ∙ ap is_some (h start ∙ ap (λ v. either v (old start)) g)
+  | inr ge ↦ ap (λ v. is_some (now v)) (ap (λ j. get_or fs j []) (omega (arith, l, ge)) ∙ sym (at_one ∙ get_or_default fs n start [] ln)) ∙ ap is_some (h start ∙ ap (λ v. either v (old start)) g)
 ]
   where
     kept : (a b : Option Bool) → is_some b ≡ true → is_some (either a b) ≡ true
@@ -61,7 +60,7 @@ covers_more fs rs old now n start c h g at_one ln k l m = elim (cases_lt k n) [
 pub covers_known : (fs : List (List ℕ)) (signs : List ℕ → Option Bool) (n : ℕ) (start : List ℕ) → Covers fs signs n → is_some (signs start) ≡ true → start ≡ get_or fs n start → n < length fs → Covers fs signs (n + 1)
 covers_known fs signs n start c g at_one ln k l m = elim (cases_lt k n) [
   | inl lt ↦ c k lt m
-  | inr ge ↦ ap (λ v. is_some (signs v)) (ap (λ j. get_or fs j []) (omega (arith, l, ge)) ∙ sym (at_one ∙ same_at fs n start [] ln)) ∙ g
+  | inr ge ↦ ap (λ v. is_some (signs v)) (ap (λ j. get_or fs j []) (omega (arith, l, ge)) ∙ sym (at_one ∙ get_or_default fs n start [] ln)) ∙ g
 ]
 
 -- ---- the orientation

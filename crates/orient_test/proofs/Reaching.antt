@@ -4,14 +4,15 @@ use Rattle.std.specs.Option.{MatchOption}
 use Rattle.std.proofs.lemmas.Bool.{cases_lt}
 use Rattle.complex_core.specs.Labels.{has}
 use Rattle.complex_core.specs.Spaces.{is_facet}
-use Rattle.pseudo_test.proofs.Counted.{same_at}
-use Rattle.pseudo_test.proofs.Spreading.{has_at, place_of_label}
+use Rattle.pseudo_test.proofs.Spreading.{has_at}
 use Rattle.orient_test.specs.declared.search.Reached.{Reached}
 use Rattle.orient_test.specs.Signs.{times}
 use Rattle.orient_test.specs.Walks.{Step, IsStep, turn}
 use Rattle.orient_test.specs.Spreads.{at, given, IsTree, IsForced, IsPlaced, IsCrossed, IsFew, ComeEarlier}
 use Rattle.orient_test.proofs.Chains.{same_place}
 use Rattle.orient_test.proofs.Trees.{at_front, given_place, given_new, tree_one, tree_earlier, few_start}
+use Rattle.std.proofs.lemmas.List.{get_or_default}
+use Rattle.complex_core.proofs.Members.{place_of_label}
 
 -- the steps from this facet lead to facets that have the forced signs
 abbrev pub Forces : List (List ℕ) → List Reached → ℕ → Step → Type 0
@@ -49,7 +50,7 @@ inner_start fs start rs places next one labels g l at_one e = record {
 }
 
 pub inner_label : (fs : List (List ℕ)) (start : List ℕ) (rs : List Reached) (places : List ℕ → Option ℕ) (next : ℕ) (labels : List ℕ) (j : ℕ) → Inner fs start rs places next labels j → j < length labels → has (at rs next).facet (get_or labels j 0) ≡ true
-inner_label fs start rs places next labels j n l = ap (λ m. has m (get_or labels j 0)) (sym n.is) ∙ has_at labels j (get_or labels j 0) l (same_at labels j 0 (get_or labels j 0) l)
+inner_label fs start rs places next labels j n l = ap (λ m. has m (get_or labels j 0)) (sym n.is) ∙ has_at labels j (get_or labels j 0) l (get_or_default labels j 0 (get_or labels j 0) l)
 
 -- what was forced stays forced
 still : (fs : List (List ℕ)) (rs now : List Reached) (next label k : ℕ) (s : Step) → IsCrossed fs rs now next label → k < length rs → Forces fs rs k s → Forces fs now k s

@@ -9,12 +9,12 @@ use Rattle.std.proofs.lemmas.Bool.{cases_lt}
 use Rattle.complex_core.specs.Labels.{face_cmp}
 use Rattle.complex_core.specs.Spaces.{is_facet}
 use Rattle.complex_core.proofs.Laws.{same_sets_is, same_set_itself}
-use Rattle.pseudo_test.proofs.Subsets.{two, clash}
 use Rattle.orient_test.specs.declared.search.Reached.{Reached}
 use Rattle.orient_test.specs.Signs.{times}
 use Rattle.orient_test.specs.Walks.{Step, IsStep, turn}
 use Rattle.orient_test.specs.Spreads.{at, either, given, IsFew, IsNeighbour, NoNeighbour, CameFrom, IsTree, ComeEarlier, Contradicts, IsPlaced, IsCrossed}
 use Rattle.orient_test.proofs.Chains.{step_back, is_back, turn_back}
+use Rattle.complex_core.proofs.SubsetLists.{two, clash}
 
 no_one : Reached
 no_one = record { facet = []; turned = false; from = 0 }

@@ -18,8 +18,9 @@ use Rattle.complex_core.proofs.Faces.{less_cmp}
 use Rattle.complex_core.proofs.Laws.{same_sets_is, same_set_itself, some_listed, some_has, found}
 use Rattle.pseudo_test.specs.Ridges.{IsRidge, count, Closed, Thin, IsLeastOther}
 use Rattle.pseudo_test.specs.Sides.{side_cmp, sides_of, sides, facet_of, run_of, IsRun}
-use Rattle.pseudo_test.proofs.Subsets.{two, clash}
 use Rattle.pseudo_test.proofs.Sided.{side_total, labels_less, any_sides, found_set, run_is, not_above}
+use Rattle.std.proofs.lemmas.List.{get_or_default}
+use Rattle.complex_core.proofs.SubsetLists.{two, clash}
 
 -- ---- runs
 
@@ -81,11 +82,6 @@ any_at p (x ∷ xs) (suc k) d l t = at (p x) (any_at p xs k d (omega arith) t)
     at true h = refl
     at false h = h
 
-pub same_at : {X : Type 0} (xs : List X) (i : ℕ) (d e : X) → i < length xs → get_or xs i d ≡ get_or xs i e
-same_at [] i d e h = absurd (omega (arith, h))
-same_at (x ∷ xs) zero d e h = refl
-same_at (x ∷ xs) (suc i) d e h = same_at xs i d e (omega arith)
-
 -- each ridge has a side
 pub side_place : (fs : List (List ℕ)) (r : List ℕ) (d : List ℕ × ℕ) → IsRidge fs r → (k : ℕ) × (k < length (sides fs)) × ((get_or (sides fs) k d).0 ≡ r)
 side_place fs r d g =
@@ -139,7 +135,7 @@ least_at fs items i s n e l at c o h =
       least = λ r g less.
           let p : (k : ℕ) × (k < length (sides fs)) × ((get_or (sides fs) k s).0 ≡ r) = side_place fs r s g in
           let before : p.0 < i = earlier fs i p.0 s li p.1 ((λ j. face_cmp (p.2 j) (sym a j).0) ∙ less) in
-          ap (count fs) (sym p.2 ∙ ap (λ t. t.0) (same_at (sides fs) p.0 s ([], 0) p.1) ∙ ap (λ (xs : List (List ℕ × ℕ)). (get_or xs p.0 ([], 0)).0) (sym e)) ∙ h p.0 before;
+          ap (count fs) (sym p.2 ∙ ap (λ t. t.0) (get_or_default (sides fs) p.0 s ([], 0) p.1) ∙ ap (λ (xs : List (List ℕ × ℕ)). (get_or xs p.0 ([], 0)).0) (sym e)) ∙ h p.0 before;
     }
 
 pub thin_at : (fs : List (List ℕ)) (items : List (List ℕ × ℕ)) (n : ℕ) → items ≡ sides fs → length items ≤ n → ((k : ℕ) → k < n → count fs (get_or items k ([], 0)).0 ≤ 2) → Thin fs
@@ -162,7 +158,7 @@ passes_more P fs items i s l at here h k lk = elim (cases_lt k i) [
   | inl lt ↦ h k lt
   | inr ge ↦
       let e : i ≡ k = omega (arith, lk, ge) in
-      subst P (ap (λ t. count fs t.0) (at ∙ same_at items i s ([], 0) l) ∙ ap (λ j. count fs (get_or items j ([], 0)).0) e) here
+      subst P (ap (λ t. count fs t.0) (at ∙ get_or_default items i s ([], 0) l) ∙ ap (λ j. count fs (get_or items j ([], 0)).0) e) here
 ]
 
 -- the run of a side, as it is shown

@@ -8,7 +8,7 @@ use Rattle.std.specs.Cmp.Derive.{both_true}
 use Rattle.std.specs.Cmp.Lexicographic.{pointwise, nat_list_cmp_total, texts_ties}
 use Rattle.std.specs.declared.cmp.Ordering.{Ordering}
 use Rattle.std.specs.declared.cmp.Ordering.TheVariants.{Less, Equal, Greater}
-use Rattle.std.proofs.lemmas.Bool.{cases_lt}
+use Rattle.std.proofs.lemmas.Bool.{cases_lt, false_from_ne_true}
 use Rattle.std.proofs.lemmas.Cmp.{nat_cmp_total, tied_itself}
 use Rattle.std.proofs.lemmas.List.{flat_map_more, take_more, length-drop}
 use Rattle.std.proofs.Math.Seq.{take-length}
@@ -16,16 +16,19 @@ use Rattle.std.proofs.lemmas.List.Kept.{IsStrictlySortedBy-filter}
 use Rattle.std.proofs.lemmas.Map.Keys.{Less-from_sorted}
 use Rattle.complex_core.specs.Labels.{has, holds, with, without, face_cmp}
 use Rattle.complex_core.specs.Rising.{rising}
-use Rattle.complex_core.specs.Spaces.{Space, IsComplex, IsFacet, over, is_facet}
+use Rattle.complex_core.specs.Spaces.{Space, IsComplex, over, is_facet}
 use Rattle.complex_core.proofs.Sets.{above_head, above_tail, above_cons, sorted_none, Above, sorted_rising, sorted_drop, any-rising, each_rising}
 use Rattle.complex_core.proofs.SortAny.{sorted_any}
 use Rattle.complex_core.proofs.Faces.{equal_cmp, less_cmp, cmp_less, cmp_equal, put_before, put_after}
 use Rattle.complex_core.proofs.Sorting.{exact_faces}
-use Rattle.complex_core.proofs.Laws.{both_ways, holds_has, nat_eq_swap, has-with, has-without, nat_eq_is, nat_eq_same, same_sets_is, same_set_itself, listed-filter, same_lists, same_labels, sorted_without, or_left, or_right, some_has, some_listed, found, length-without}
-use Rattle.complex_core.proofs.Sets.{sorted_put}
+use Rattle.complex_core.proofs.Laws.{both_ways, holds_has, nat_eq_same, same_sets_is, same_set_itself, listed-filter, same_lists, same_labels, sorted_without, or_left, or_right, some_has, some_listed, found, length-without}
 use Rattle.pseudo_test.specs.Ridges.{IsRidge}
 use Rattle.pseudo_test.specs.Sides.{side_cmp, sides_of, sides, facet_of, run_of}
-use Rattle.pseudo_test.proofs.Subsets.{two, clash, not_true, without_gone, holds_without, holds_less, lacking, fewer}
+use Rattle.pseudo_test.proofs.Subsets.{holds_without, holds_less, lacking}
+use Rattle.complex_core.proofs.SubsetLists.{two, clash, fewer}
+use Rattle.complex_core.proofs.Renaming.{list_any-map}
+use Rattle.complex_core.proofs.Members.{without_gone, with_back}
+use Rattle.complex_core.proofs.SetLists.{pure_at}
 
 -- ---- the order of sides
 
@@ -179,7 +182,7 @@ put_less (z ∷ zs) x y s l p q =
     other v h e = clash {P = ⊥} (has (z ∷ zs) v) (or_left (nat_eq z v) (has zs v) (ap (nat_eq z) e ∙ nat_eq_same z)) h
 
     rest : (v : ℕ) → has (z ∷ zs) v ≡ false → has zs v ≡ false
-    rest v h = not_true (has zs v) (λ t. clash {P = ⊥} (has (z ∷ zs) v) (or_right (nat_eq z v) (has zs v) t) h)
+    rest v h = false_from_ne_true (has zs v) (λ t. clash {P = ⊥} (has (z ∷ zs) v) (or_right (nat_eq z v) (has zs v) t) h)
 
     above : (v w : ℕ) → nat_cmp v w ≡ Greater → w < v
     above v w g = search (arith, g)
@@ -197,10 +200,6 @@ any_append p (x ∷ xs) ys = ap (λ b. p x || b) (any_append p xs ys) ∙ assoc 
 any_flat : {X Y : Type 0} (p : Y → Bool) (h : X → List Y) (xs : List X) → list_any p (flat_map h xs) ≡ list_any (λ x. list_any p (h x)) xs
 any_flat p h [] = refl
 any_flat p h (x ∷ xs) = any_append p (h x) (flat_map h xs) ∙ ap (λ b. list_any p (h x) || b) (any_flat p h xs)
-
-any_map : {X Y : Type 0} (p : Y → Bool) (h : X → Y) (xs : List X) → list_any p (map h xs) ≡ list_any (λ x. p (h x)) xs
-any_map p h [] = refl
-any_map p h (x ∷ xs) = ap (λ b. p (h x) || b) (any_map p h xs)
 
 any_filter : {X : Type 0} (p q : X → Bool) (xs : List X) → list_any p (filter q xs) ≡ list_any (λ x. q x && p x) xs
 any_filter p q [] = refl
@@ -223,31 +222,9 @@ found_set q (f ∷ fs) t = elim (two (q f)) [
 
 -- a test of the sides, as one of the facets and their labels
 pub any_sides : (p : List ℕ × ℕ → Bool) (fs : List (List ℕ)) → list_any p (sides fs) ≡ list_any (λ f. list_any (λ x. p (without f x, x)) f) fs
-any_sides p fs = any-rising side_cmp side_exact p (flat_map sides_of fs) ∙ any_flat p sides_of fs ∙ any_same (λ f. list_any p (sides_of f)) (λ f. list_any (λ x. p (without f x, x)) f) (λ f. any_map p (λ x. (without f x, x)) f) fs
+any_sides p fs = any-rising side_cmp side_exact p (flat_map sides_of fs) ∙ any_flat p sides_of fs ∙ any_same (λ f. list_any p (sides_of f)) (λ f. list_any (λ x. p (without f x, x)) f) (λ f. list_any-map p (λ x. (without f x, x)) f) fs
 
 -- ---- complexes
-
-pub pure_at : (d : ℕ) (fs : List (List ℕ)) (f : List ℕ) → AllByRecursion (IsFacet d) fs → is_facet fs f ≡ true → IsFacet d f
-pure_at d [] f h t = clash true refl (sym t)
-pure_at d (g ∷ gs) f h t = elim (two (pointwise nat_eq g f)) [
-  | inl e ↦ let P : List ℕ → Type 0 = λ g. IsFacet d g in subst P (same_sets_is g f e) h.0
-  | inr e ↦ pure_at d gs f h.1 (sym (ap (λ c. c || is_facet gs f) e) ∙ t)
-]
-
--- a set with a label that was taken out
-pub with_back : (f : List ℕ) (x : ℕ) → IsStrictlySortedBy nat_cmp f → has f x ≡ true → with (without f x) x ≡ f
-with_back f x s t = same_labels (with (without f x) x) f (sorted_put nat_cmp_total x (without f x) (sorted_without f x s)) s (λ z.
-    has-with (without f x) x z ∙ ap (λ c. nat_eq x z || c) (has-without f x z) ∙ back z)
-  where
-    back : (z : ℕ) → (nat_eq x z || (has f z && not (nat_eq z x))) ≡ has f z
-    back z = elim (two (nat_eq x z)) [
-      | inl e ↦ ap (λ c. c || (has f z && not (nat_eq z x))) e ∙ sym (ap (has f) (sym (nat_eq_is x z e)) ∙ t)
-      | inr e ↦ ap (λ c. c || (has f z && not (nat_eq z x))) e ∙ ap (λ c. has f z && not c) (nat_eq_swap z x ∙ e) ∙ and_true (has f z)
-    ]
-      where
-        and_true : (c : Bool) → (c && true) ≡ c
-        and_true true = refl
-        and_true false = refl
 
 -- a part of the same size is the whole
 pub whole : (r s : List ℕ) → IsStrictlySortedBy nat_cmp r → IsStrictlySortedBy nat_cmp s → holds s r ≡ true → length r ≡ length s → r ≡ s
@@ -276,14 +253,14 @@ module _ (k : Space) (c : IsComplex k) where
   -- a facet over a ridge is the ridge and one label
   pub dropped : (r f : List ℕ) → IsRidge k.facets r → is_facet k.facets f ≡ true → holds f r ≡ true → (x : ℕ) × (has f x ≡ true) × (r ≡ without f x)
   dropped r f g t h =
-      let o : holds r f ≡ false = not_true (holds r f) (λ q. absurd (omega (arith, fewer f r (set f t) (ridge_set r g) q, size f t, ridge_size r g))) in
+      let o : holds r f ≡ false = false_from_ne_true (holds r f) (λ q. absurd (omega (arith, fewer f r (set f t) (ridge_set r g) q, size f t, ridge_size r g))) in
       let x : (x : ℕ) × (has f x ≡ true) × (has r x ≡ false) = lacking r f o in
       (x.0, x.1, whole r (without f x.0) (ridge_set r g) (sorted_without f x.0 (set f t)) (holds_less f r x.0 h x.2) (omega (arith, ridge_size r g, size f t, length-without f x.0 (set f t) x.1)))
 
   -- the facets that a run makes are those over the ridge
   pub run_has : (r g : List ℕ) → IsRidge k.facets r → is_facet (map facet_of (run_of (sides k.facets) r)) g ≡ (is_facet k.facets g && holds g r)
   run_has r g i =
-      any_map (λ f. pointwise nat_eq f g) facet_of (run_of (sides k.facets) r)
+      list_any-map (λ f. pointwise nat_eq f g) facet_of (run_of (sides k.facets) r)
       ∙ any_filter (λ s. pointwise nat_eq (facet_of s) g) (λ s. pointwise nat_eq s.0 r) (sides k.facets)
       ∙ any_sides (makes r g) k.facets
       ∙ both_ways (list_any (λ f. list_any (λ x. makes r g (without f x, x)) f) k.facets) (is_facet k.facets g && holds g r) there back

@@ -8,8 +8,8 @@ use Rattle.std.specs.Cmp.Lexicographic.{pointwise, nat_list_cmp_total, texts_tie
 use Rattle.std.specs.declared.cmp.Ordering.TheVariants.{Less, Greater}
 use Rattle.std.specs.Ordering.{nat_cmp, is_eq, is_gt, ordering_reverse, match_ordering}
 use Rattle.std.specs.BTreeSet.{BTreeSet, contains, insert_key}
-use Rattle.std.proofs.lemmas.Bool.{cases_lt}
-use Rattle.std.proofs.lemmas.List.{take_more}
+use Rattle.std.proofs.lemmas.Bool.{cases_lt, not-true, false_from_ne_true}
+use Rattle.std.proofs.lemmas.List.{take_more, get_or_default}
 use Rattle.complex_core.proofs.Runs.{sorted_run}
 use Rattle.complex_core.proofs.Faces.{less_cmp}
 use Rattle.complex_core.specs.Labels.{has, holds, with, without, face_cmp, IsFace}
@@ -19,10 +19,12 @@ use Rattle.complex_core.proofs.Laws.{has-with, nat_eq_is, nat_eq_same, or_left, 
 use Rattle.pseudo_test.specs.Ridges.{IsRidge}
 use Rattle.pseudo_test.specs.Chains.{Near, Linked, Joined, Strong, IsLeast, IsApart}
 use Rattle.pseudo_test.specs.Spreads.{Moved, over_new}
-use Rattle.pseudo_test.proofs.Subsets.{two, clash, not_true, holds_without}
+use Rattle.pseudo_test.proofs.Subsets.{holds_without}
 use Rattle.pseudo_test.proofs.Sided.{dropped, tail_rest, run_is}
 use Rattle.pseudo_test.specs.Sides.{sides, facet_of, run_of}
-use Rattle.pseudo_test.proofs.Counted.{same_at}
+use Rattle.complex_core.proofs.SubsetLists.{two, clash}
+use Rattle.complex_core.proofs.Booleans.{and_false}
+use Rattle.complex_core.proofs.Members.{place_of_label}
 
 -- ---- chains
 
@@ -81,14 +83,6 @@ split_table false true true = refl
 split_table false true false = refl
 split_table false false n = refl
 
-not_so : (c : Bool) → not c ≡ true → c ≡ false
-not_so true g = sym g
-not_so false g = refl
-
-and_false : (c : Bool) → (c && false) ≡ false
-and_false true = refl
-and_false false = refl
-
 either : {P : Type 0} (a b : Bool) → (a || b) ≡ true → (a ≡ true → P) → (b ≡ true → P) → P
 either true b t f g = f refl
 either false b t f g = g t
@@ -105,13 +99,13 @@ spread_over k first f x run reached left now_reached now_left seen now_seen c s 
   apart = λ g v.
       let w : (is_facet left g && not (new g)) ≡ true = sym (m.gone g) ∙ v in
       now g ∙ ap (λ b. b || (is_facet left g && new g)) (s.apart g (first_so (is_facet left g) (not (new g)) w))
-      ∙ ap (λ b. is_facet left g && b) (not_so (new g) (second_so (is_facet left g) (not (new g)) w)) ∙ and_false (is_facet left g);
+      ∙ ap (λ b. is_facet left g && b) (not-true (new g) (second_so (is_facet left g) (not (new g)) w)) ∙ and_false (is_facet left g);
   clear = λ r g v w.
       let l : (is_facet left g && not (new g)) ≡ true = sym (m.gone g) ∙ w in
       let lg : is_facet left g ≡ true = first_so (is_facet left g) (not (new g)) l in
-      let out : new g ≡ false = not_so (new g) (second_so (is_facet left g) (not (new g)) l) in
+      let out : new g ≡ false = not-true (new g) (second_so (is_facet left g) (not (new g)) l) in
       either (seen r) (pointwise nat_eq (without f x) r) (sym (n r) ∙ v) (λ old. s.clear r g old lg) (λ e.
-      ap (holds g) (sym (same_sets_is (without f x) r e)) ∙ not_true (holds g (without f x)) (λ h. elim (two (seen (without f x))) [
+      ap (holds g) (sym (same_sets_is (without f x) r e)) ∙ false_from_ne_true (holds g (without f x)) (λ h. elim (two (seen (without f x))) [
         | inl old ↦ clash {P = ⊥} (holds g (without f x)) h (s.clear (without f x) g old lg)
         | inr fresh ↦ clash {P = ⊥} (new g) (ap (λ b. is_facet (over_new b run) g) fresh ∙ in_run g ∙ both_true (s.all g ∙ or_right (is_facet reached g) (is_facet left g) lg) h) out
       ]));
@@ -215,7 +209,7 @@ spread_start k fs reached left first seen c e at er el none = let P : List (List
           begins = ap (λ us. is_facet us first) r ∙ ap (λ h. pointwise nat_eq g h || false) a ∙ or_left (pointwise nat_eq g g) false (same_set_itself g);
           joined = λ h u. here (g ∷ gs) first h (a ∙ same_sets_is g h (sym (or_none (pointwise nat_eq g h)) ∙ sym (ap (λ us. is_facet us h) r) ∙ u));
           all = λ h. (λ i. sym (or_none (pointwise nat_eq g h)) i || is_facet (sym t i) h) ∙ ap (λ us. is_facet us h || is_facet left h) (sym r);
-          apart = λ h u. ap (λ us. is_facet us h) r ∙ or_none (pointwise nat_eq g h) ∙ not_true (pointwise nat_eq g h) (λ v. clash {P = ⊥} (is_facet left h) u (ap (λ us. is_facet us h) t ∙ ap (is_facet gs) (sym (same_sets_is g h v)) ∙ sym (listed-among gs g) ∙ not_among nat_list_cmp_total g gs (above_head face_cmp g gs s)));
+          apart = λ h u. ap (λ us. is_facet us h) r ∙ or_none (pointwise nat_eq g h) ∙ false_from_ne_true (pointwise nat_eq g h) (λ v. clash {P = ⊥} (is_facet left h) u (ap (λ us. is_facet us h) t ∙ ap (is_facet gs) (sym (same_sets_is g h v)) ∙ sym (listed-among gs g) ∙ not_among nat_list_cmp_total g gs (above_head face_cmp g gs s)));
           clear = λ q h u. clash (seen q) u (none q);
           total = omega (arith, ap length r, ap length t);
         }
@@ -363,14 +357,6 @@ pub taken_len : (b : Bool) (n m : ℕ) → b ≡ true → n + cond b 1 0 ≡ m �
 taken_len true n m e h = h
 taken_len false n m e h = clash true refl (sym e)
 
--- what `insert` answers of a ridge
-pub was_seen : (seen : Bool) → not seen ≡ false → seen ≡ true
-was_seen true h = refl
-was_seen false h = clash true refl h
-
-pub was_fresh : (seen : Bool) → not seen ≡ true → seen ≡ false
-was_fresh seen h = not_so seen h
-
 -- ---- the loop
 
 pub moved_fresh : (old : Bool) (run : List (List ℕ)) (reached left now_reached now_left : List (List ℕ)) → old ≡ false → Moved run reached left now_reached now_left → Moved (over_new old run) reached left now_reached now_left
@@ -398,13 +384,6 @@ has_at [] i x l e = absurd (omega (arith, l))
 has_at (y ∷ ys) zero x l e = or_left (nat_eq y x) (has ys x) (ap (nat_eq y) e ∙ nat_eq_same y)
 has_at (y ∷ ys) (suc i) x l e = or_right (nat_eq y x) (has ys x) (has_at ys i x (omega arith) e)
 
-pub place_of_label : (xs : List ℕ) (x : ℕ) → has xs x ≡ true → (i : ℕ) × (i < length xs) × (get_or xs i 0 ≡ x)
-place_of_label [] x t = clash true refl (sym t)
-place_of_label (y ∷ ys) x t = elim (two (nat_eq y x)) [
-  | inl e ↦ (0, omega arith, nat_eq_is y x e)
-  | inr e ↦ let p : (i : ℕ) × (i < length ys) × (get_or ys i 0 ≡ x) = place_of_label ys x (sym (ap (λ b. b || has ys x) e) ∙ t) in (suc p.0, omega (arith, p.1), p.2)
-]
-
 pub listed_at : (xs : List (List ℕ)) (i : ℕ) (d : List ℕ) → i < length xs → is_facet xs (get_or xs i d) ≡ true
 listed_at [] i d h = absurd (omega (arith, h))
 listed_at (x ∷ xs) zero d h = or_left (pointwise nat_eq x x) (is_facet xs x) (same_set_itself x)
@@ -423,7 +402,7 @@ within_start k first facet labels reached left seen next s d l at e = record {
   spread = s;
   done = d;
   inside = l;
-  is = e ∙ at ∙ same_at reached next facet [] l;
+  is = e ∙ at ∙ get_or_default reached next facet [] l;
   before = λ j h. absurd (omega (arith, h));
 }
 
@@ -456,7 +435,7 @@ within_next k first reached left now_reached now_left seen now_seen next facet l
       before = λ j h. elim (cases_lt j i) [
         | inl lt ↦ ahead (without labels (get_or labels j 0)) (w.before j lt)
         | inr ge ↦
-            let same : x ≡ get_or labels j 0 = at ∙ same_at labels i x 0 l ∙ ap (λ v. get_or labels v 0) (omega (arith, h, ge)) in
+            let same : x ≡ get_or labels j 0 = at ∙ get_or_default labels i x 0 l ∙ ap (λ v. get_or labels v 0) (omega (arith, h, ge)) in
             ap (λ v. now_seen (without labels v)) (sym same) ∙ n (without labels x) ∙ or_right (seen (without labels x)) (pointwise nat_eq ridge (without labels x)) (ap (pointwise nat_eq ridge) (sym r) ∙ same_set_itself ridge)
       ];
     }

@@ -29,6 +29,7 @@ use Rattle.round_rules.proofs.Counting.{round_grows}
 use Rattle.round_rules.proofs.Ending.{faces_in}
 use Rattle.round_run.specs.Reports.{Chain, scene, descent_entries, history_from}
 use Rattle.report_text.proofs.Places.{TakesPlaces, entries_taken}
+use Rattle.round_run.proofs.Histories.{flat_descent}
 
 -- ---- flips that are legal in order, with names
 
@@ -76,10 +77,6 @@ few_in_round m plan n low next r c h =
     omega (arith, grown, more, flips, entries)
 
 -- ---- the flips of a history
-
-flat_descent : (n k : ℕ) (d : List Flip) → flat (descent_entries n k d) ≡ d
-flat_descent n k [] = refl
-flat_descent n k (f ∷ fs) = ap (λ gs. f ∷ gs) (flat_descent n (k + 1) fs)
 
 flat_last : (n : ℕ) (d : List Flip) → flat (history_from n (d ∷ []) []) ≡ d
 flat_last n d = ap flat (append-nil (descent_entries n 0 d)) ∙ flat_descent n 0 d

@@ -22,8 +22,9 @@ use Rattle.report_text.specs.Laws.{ReportIsShown}
 use Rattle.report_text.specs.Shown.{IsReported}
 use Rattle.report_text.proofs.Chains.{Leads, Runs, chain_runs}
 use Rattle.report_text.proofs.Fits.{legal_flips_fit}
-use Rattle.report_text.proofs.Places.{names_take_places, placed_length}
+use Rattle.report_text.proofs.Places.{names_take_places}
 use Rattle.report_text.proofs.Searches.{chain_of}
+use Rattle.sphere_text.proofs.Shown.{placed_length}
 
 -- the tries of so many rounds
 few_tries : (plan : Numbers) (rounds : ℕ) → KeepsLimits plan → rounds ≤ plan.rounds → plan.workers * plan.tries * rounds ≤ 250000

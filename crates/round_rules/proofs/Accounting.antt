@@ -23,6 +23,7 @@ use Rattle.round_rules.proofs.Lists.{CountFrom, count_none, count_one, count_mor
 use Rattle.round_rules.proofs.Judging.{Fitting, NotedIn}
 use Rattle.round_rules.proofs.OneTry.{outcome_of}
 use Rattle.round_rules.proofs.Growing.{commits, commits_more, numbers_more, outcomes_more, outcomes_quit}
+use Rattle.vertex_claims.proofs.Seats.{length-marks}
 
 -- ---- what one try adds
 
@@ -68,10 +69,6 @@ below_with n t ts other = tested t.count n (λ b. cond (t.won && b) (some t) (la
 
 -- ---- all tries
 
-pub marks_len : (ts : List Try) → length (marks_of ts) ≡ length ts
-marks_len [] = refl
-marks_len (t ∷ ts) = let i = marks_len ts in let j = length-append (marks_of ts) (mark_of t ∷ []) in omega (arith, i, j)
-
 -- what the first tries of a worker show
 pub record Part (s : Scene) (entries : List JournalEntry) (w : ℕ) (tasks : ℕ → Task) (ts : List Try) (answers : List Tried) (own : List JournalEntry) : Type 0 where
   pub outcomes : Outcomes s entries w tasks 0 0 (marks_of ts) answers
@@ -92,11 +89,11 @@ part_more s entries w tasks t ts answers a was now d count p one = record {
   count = (let m = commits_more answers a in let c = p.count in let e = d.count in omega (arith, m, c, e, longer));
   numbers = numbers_more answers a ∙ (λ i. p.numbers i ++ d.numbers i) ∙ sym (seqs_append was d.more) ∙ ap seqs (sym d.longer);
   up = λ k x at. let r = count_more 0 (numbers_in answers) (numbers_in (a ∷ [])) (λ j y there. let e = p.up j y there in omega (arith, e)) (λ j y there. let e = d.next j y there in omega (arith, e, many)) k x (ap (λ (l : List ℕ). get_elem? l k) (sym (numbers_more answers a)) ∙ at) in omega (arith, r);
-  long = (let m = marks_len (t ∷ ts) in let n = marks_len ts in let l = p.long in let e = length-append answers (a ∷ []) in omega (arith, m, n, l, e));
+  long = (let m = length-marks (t ∷ ts) in let n = length-marks ts in let l = p.long in let e = length-append answers (a ∷ []) in omega (arith, m, n, l, e));
 }
   where
     number : length ts ≡ 0 + length (marks_of ts)
-    number = let m = marks_len ts in omega (arith, m)
+    number = let m = length-marks ts in omega (arith, m)
 
     earlier : t.count ≡ 0 + commits answers
     earlier = let m = p.count in omega (arith, m, count)

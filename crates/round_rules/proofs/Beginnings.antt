@@ -3,20 +3,14 @@ use Rattle.std.proofs.Common.{◌≡◌, ℕ, ◌+◌, Bool, true, false, cond, 
 use Rattle.std.proofs.lemmas.List.Folds.{list_any-append}
 use Rattle.std.proofs.lemmas.Option.{same_Some}
 use Rattle.complex_core.specs.Spaces.{Space}
-use Rattle.flip_rules.specs.Flips.{flipped, replay}
+use Rattle.flip_rules.specs.Flips.{replay}
 use Rattle.flip_rules.specs.Entries.{JournalEntry}
 use Rattle.flip_rules.specs.Journals.{flat, flip_touches, entry_touches, touches, star_of, At}
-use Rattle.flip_rules.specs.declared.flip.Flip.{Flip}
-use Rattle.flip_rules.proofs.Replays.{first_flip, replay_split}
+use Rattle.flip_rules.proofs.Replays.{replay_split}
 use Rattle.flip_rules.proofs.Journals.{flat-append, touches-append, touches-cons, stars_exist, star_stays}
 use Rattle.star_laws.specs.Stars.{Rises, flips_touch}
-use Rattle.star_laws.proofs.FlipStars.{rises_flipped}
 use Rattle.star_laws.proofs.ReplayStars.{others_replay}
-
--- a replay from a rising list of facets ends in one
-pub rises_replayed : (k m : Space) (flips : List Flip) → Rises k → replay k flips ≡ Some m → Rises m
-rises_replayed k m [] h r = let P : Space → Type 0 = λ l. Rises l in subst P (same_Some k m r) h
-rises_replayed k m (f ∷ fs) h r = rises_replayed (flipped k f.a f.b) m fs (rises_flipped k f.a f.b) (first_flip k m f fs r).1
+use Rattle.flip_world.proofs.Replays.{rises_replay}
 
 -- where no entry touches the place, no flip of theirs does
 untouched_by : (e : JournalEntry) (es : List JournalEntry) (place : ℕ) (b : Bool) → entry_touches place e ≡ b → cond b 1 0 + touches es place ≡ 0 → (touches es place ≡ 0 → flips_touch place (flat es) ≡ false) → (b || flips_touch place (flat es)) ≡ false
@@ -38,6 +32,6 @@ star_after_beginning start there before next place rises h =
     let parts : (m : Space) × (replay start (flat at.front) ≡ Some m) × (replay m (flat rest) ≡ Some there) = replay_split start there (flat at.front) (flat rest) (ap (replay start) (sym (ap flat at.shortest.splits ∙ flat-append at.front rest)) ∙ h) in
     let same : parts.0 ≡ at.there = same_Some parts.0 at.there (sym parts.1 ∙ at.replays) in
     let none : touches rest place ≡ 0 = omega (arith, ap (λ (l : List JournalEntry). touches l place) at.shortest.splits, touches-append at.front rest place, at.shortest.touched) in
-    let stays : star_of there place ≡ star_of parts.0 place = others_replay parts.0 there (flat rest) place (rises_replayed start parts.0 (flat at.front) rises parts.1) parts.2 (untouched rest place none) in
+    let stays : star_of there place ≡ star_of parts.0 place = others_replay parts.0 there (flat rest) place (rises_replay start parts.0 (flat at.front) rises parts.1) parts.2 (untouched rest place none) in
     let is : found.0 ≡ star_of there place = at.star ∙ ap (λ (k : Space). star_of k place) (sym same) ∙ sym stays in
     subst (λ (facets : List (List ℕ)). At start (before ++ next) place (touches before place) facets) is (star_stays start before next place (touches before place) found.0 at)

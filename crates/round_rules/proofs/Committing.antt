@@ -5,14 +5,15 @@ use Rattle.flip_rules.specs.Entries.{JournalEntry}
 use Rattle.flip_rules.specs.declared.flip.Flip.{Flip}
 use Rattle.flip_rules.proofs.Journals.{star_is_one}
 use Rattle.anneal_plan.specs.Proposals.{allowed_of}
+use Rattle.board_rule.specs.Tries.{Unrefused}
 use Rattle.vertex_claims.specs.declared.mark.Mark.{Mark}
 use Rattle.round_rules.specs.Laws.{TryCommits}
-use Rattle.round_rules.specs.Outcomes.{Unrefused, BlockedRow, Row, WonRow, Judges, star_at}
+use Rattle.round_rules.specs.Outcomes.{BlockedRow, Row, WonRow, Judges, star_at}
 use Rattle.round_rules.specs.Tasks.{Scene, Task, turns_of, changes}
 use Rattle.round_rules.specs.declared.tried.Tried.{Tried}
 use Rattle.round_rules.specs.declared.tried.Tried.TheVariants.{Committed, Busy, Nothing, Blocked, Declined, Quit, NoMemory}
 
-by_row : (s : Scene) (entries : List JournalEntry) (w : ℕ) (task : Task) (earlier version : ℕ) (m : Mark) (flips : List Flip) (a : Tried) → Unrefused m → flips ≢ [] → changes task.dim flips ≤ℤ allowed_of task.dim task.phase → ((f : Flip) → BlockedRow s entries w earlier version m f flips → ⊥) → a ≢ Quit
+by_row : (s : Scene) (entries : List JournalEntry) (w : ℕ) (task : Task) (earlier version : ℕ) (m : Mark) (flips : List Flip) (a : Tried) → Unrefused m.vertices m.journal → flips ≢ [] → changes task.dim flips ≤ℤ allowed_of task.dim task.phase → ((f : Flip) → BlockedRow s entries w earlier version m f flips → ⊥) → a ≢ Quit
     → Row s entries w task earlier version m flips a → ((n : ℕ) × (a ≡ Committed n)) ⊎ (a ≡ NoMemory)
 by_row s entries w task earlier version m flips (Committed n) free some few unblocked stays r = inl (n, refl)
 by_row s entries w task earlier version m flips (Busy zero o) free some few unblocked stays r = let j = (r.journal refl).journal in let f = free.1 in absurd (omega (arith, j, f))

@@ -1,17 +1,16 @@
 -- How many facets flips add.
-use Rattle.std.proofs.Common.{◌≡◌, ℕ, ◌+◌, ◌*◌, ◌≤◌, Bool, true, false, not, nat_eq, ◌||◌, ◌&&◌, ℤ, pos, ◌+ℤ◌, ◌≤ℤ◌, List, [], ◌∷◌, ◌++◌, length, map, Ok, Some, sym, refl, ap, ◌∙◌, subst, arith, length-append}
+use Rattle.std.proofs.Common.{◌≡◌, ℕ, ◌+◌, ◌*◌, ◌≤◌, true, false, not, nat_eq, ◌||◌, ◌&&◌, ℤ, pos, ◌+ℤ◌, ◌≤ℤ◌, List, [], ◌∷◌, ◌++◌, length, map, Ok, Some, sym, refl, ap, ◌∙◌, subst, arith, length-append}
 use Rattle.std.specs.List.{AllByRecursion}
 use Rattle.std.specs.List.Sorted.{IsStrictlySortedBy}
-use Rattle.std.specs.Ordering.{nat_cmp, match_ordering}
+use Rattle.std.specs.Ordering.{nat_cmp}
 use Rattle.std.specs.Cmp.Lexicographic.{pointwise, nat_list_cmp_total}
-use Rattle.std.specs.declared.cmp.Ordering.TheVariants.{Less, Equal, Greater}
 use Rattle.std.proofs.Math.Nat.{mul-suc}
 use Rattle.std.proofs.lemmas.Int.{ints}
 use Rattle.std.proofs.lemmas.List.{length-map}
 use Rattle.std.proofs.lemmas.List.Filters.{length-filter_both}
 use Rattle.std.proofs.lemmas.Option.{same_Some}
 use Rattle.complex_core.specs.Labels.{has, holds, without, face_cmp}
-use Rattle.complex_core.specs.Rising.{put, rising}
+use Rattle.complex_core.specs.Rising.{rising}
 use Rattle.complex_core.specs.Spaces.{Space, over, beside}
 use Rattle.complex_core.proofs.Sets.{above_head, above_tail, among, among-rising, length-put_new}
 use Rattle.complex_core.proofs.Laws.{has-union, has-without, or_left, or_right, listed, listed-among, same_sets_is, both_false, above_not, nat_eq_same, nat_eq_swap}
@@ -26,26 +25,12 @@ use Rattle.board_rule.specs.Rule.{IsEntry}
 use Rattle.round_rules.specs.Laws.{RoundGrows}
 use Rattle.round_rules.specs.Tasks.{change, changes}
 use Rattle.round_rules.proofs.Gaining.{Gains}
+use Rattle.std.proofs.lemmas.Bool.{or_parts}
+use Rattle.complex_core.proofs.SetLists.{rising_length}
 
 -- ---- a set of facets has no more members than the list that it is made of
 
-put_length : (f : List ℕ) (fs : List (List ℕ)) → length (put face_cmp f fs) ≤ length fs + 1
-put_length f [] = omega arith
-put_length f (g ∷ gs) = let i = put_length f gs in elim (face_cmp f g) as (λ r. length (match_ordering r (f ∷ g ∷ gs) (g ∷ gs) (g ∷ put face_cmp f gs)) ≤ length (g ∷ gs) + 1) [
-  | Less ↦ omega arith
-  | Equal ↦ omega arith
-  | Greater ↦ omega (arith, i)
-]
-
-rising_length : (fs : List (List ℕ)) → length (rising face_cmp fs) ≤ length fs
-rising_length [] = omega arith
-rising_length (f ∷ fs) = let p = put_length f (rising face_cmp fs) in let i = rising_length fs in omega (arith, p, i)
-
 -- ---- there is one side for each label of B
-
-either_not : (b c : Bool) → (b || c) ≡ false → (b ≡ false) × (c ≡ false)
-either_not true c h = let g : true ≡ false = h in absurd (cc)
-either_not false c h = (refl, h)
 
 -- the side without a label of B has the others, and not this one
 side_has : (a b : List ℕ) (y x : ℕ) → has a x ≡ false → has b x ≡ true → has (side a b y) x ≡ not (nat_eq x y)
@@ -60,7 +45,7 @@ other_side a b y x out inside other = elim (pointwise nat_eq (side a b y) (side 
 new_side : (a b c : List ℕ) (x : ℕ) → has a x ≡ false → has b x ≡ true → has c x ≡ false → listed (map (side a b) c) (side a b x) ≡ false
 new_side a b [] x out inside new = refl
 new_side a b (y ∷ ys) x out inside new =
-    let n = either_not (nat_eq y x) (has ys x) new in
+    let n = or_parts (nat_eq y x) (has ys x) new in
     both_false (other_side a b y x out inside (nat_eq_swap x y ∙ n.0)) (new_side a b ys x out inside n.1)
 
 apart_back : (a b : List ℕ) (x : ℕ) → (has a x ≡ true → has b x ≡ false) → has b x ≡ true → has a x ≡ false

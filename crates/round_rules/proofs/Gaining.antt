@@ -18,6 +18,7 @@ use Rattle.round_rules.specs.Tasks.{Task, turns_of, changes}
 use Rattle.round_rules.specs.declared.tried.Tried.{Tried}
 use Rattle.round_rules.specs.declared.tried.Tried.TheVariants.{Committed, Busy, Nothing, Blocked, Declined, Quit, NoMemory}
 use Rattle.round_rules.proofs.Parts.{Homed}
+use Rattle.board_rule.proofs.TryingEntries.{is_of}
 
 -- no phase allows more than the dimension
 allowed_most : (d : ℕ) (phase : Phase) → allowed_of d phase ≤ℤ pos d
@@ -68,10 +69,6 @@ few_numbers (Blocked f ∷ rest) = let i = few_numbers rest in omega (arith, i)
 few_numbers (Declined c ∷ rest) = let i = few_numbers rest in omega (arith, i)
 few_numbers (Quit ∷ rest) = let i = few_numbers rest in omega (arith, i)
 few_numbers (NoMemory ∷ rest) = let i = few_numbers rest in omega (arith, i)
-
--- whether an entry is of the round and of the worker
-abbrev pub is_of : ℕ → ℕ → JournalEntry → Bool
-is_of round w e = nat_eq e.round round && nat_eq e.worker w
 
 -- each entry is one of its worker
 pub homed : (round places n : ℕ) (es : List JournalEntry) → AllByRecursion (IsEntry round places (n + 1)) es → AllByRecursion (Homed (is_of round) (λ e. e.worker) n) es

@@ -20,7 +20,7 @@ use Rattle.board_rule.specs.declared.about.About.{About}
 use Rattle.board_rule.specs.declared.kept.Kept.{Kept}
 use Rattle.board_rule.specs.declared.view.Chief.{Chief}
 use Rattle.board_rule.proofs.Seats.{there}
-use Rattle.board_rule.proofs.TryingEntries.{every}
+use Rattle.board_rule.proofs.TryingEntries.{every, is_of}
 use Rattle.vertex_claims.specs.Ended.{IsPast}
 use Rattle.vertex_claims.specs.MarkLists.{MarkList}
 use Rattle.vertex_claims.specs.Marks.{marks_of}
@@ -35,7 +35,7 @@ use Rattle.round_rules.proofs.Judging.{Fitting, NotedIn}
 use Rattle.round_rules.proofs.Accounting.{Settled, judged}
 use Rattle.round_rules.proofs.Holding.{HadIn, had}
 use Rattle.round_rules.proofs.Blaming.{Blamed, blamed}
-use Rattle.round_rules.proofs.Gaining.{Gains, gains_all, few_numbers, is_of, homed}
+use Rattle.round_rules.proofs.Gaining.{Gains, gains_all, few_numbers, homed}
 use Rattle.round_rules.proofs.Parts.{each_part, few_in_parts}
 
 -- stars for all places are those of one complex

@@ -1,8 +1,8 @@
 -- Who had a place: what a won note tells of its mark.
-use Rattle.std.proofs.Common.{◌≡◌, ◌⊎◌, ⊎_elim, inl, inr, ℕ, Bool, true, false, cond, ◌&&◌, ◌||◌, List, [], ◌∷◌, ◌++◌, length, sym, refl, ap, ◌∙◌, subst}
+use Rattle.std.proofs.Common.{◌≡◌, ◌⊎◌, ⊎_elim, inl, inr, ℕ, Bool, true, false, cond, ◌&&◌, List, [], ◌∷◌, ◌++◌, length, sym, ap, ◌∙◌, subst}
 use mathlib.Core.Option.{some}
 use Rattle.std.specs.List.{AllByRecursion}
-use Rattle.std.proofs.lemmas.Bool.{true≢false}
+use Rattle.std.proofs.lemmas.Bool.{true≢false, and_parts, or_cases}
 use lib.ListN.{get_elem?}
 use Rattle.flip_rules.specs.Entries.{JournalEntry}
 use Rattle.flip_rules.specs.Journals.{star_of, At}
@@ -20,7 +20,7 @@ use Rattle.round_rules.specs.Tasks.{Scene, Task, turns_of}
 use Rattle.round_rules.specs.declared.tried.Tried.{Tried}
 use Rattle.round_rules.proofs.Lists.{at_front, at_last}
 use Rattle.round_rules.proofs.Judging.{Fitting, AtHome, at_home, home_is}
-use Rattle.round_rules.proofs.Accounting.{marks_len}
+use Rattle.vertex_claims.proofs.Seats.{length-marks}
 
 -- a won mark of the place, or one whose flips have it
 pub record HadIn (s : Scene) (entries : List JournalEntry) (tasks : ℕ → Task) (marks : List Mark) (q : ℕ) : Type 0 where
@@ -49,7 +49,7 @@ had_now s entries w tasks t ts was now a q rises won f o has =
     record {
       number = length ts;
       mark = mark_of t;
-      here = subst (λ (n : ℕ). get_elem? (marks_of ts ++ mark_of t ∷ []) n ≡ some (mark_of t)) (marks_len ts) (at_last (marks_of ts) (mark_of t));
+      here = subst (λ (n : ℕ). get_elem? (marks_of ts ++ mark_of t ∷ []) n ≡ some (mark_of t)) (length-marks ts) (at_last (marks_of ts) (mark_of t));
       version = t.found;
       won = found_won t won;
       rows = rows;
@@ -58,21 +58,13 @@ had_now s entries w tasks t ts was now a q rises won f o has =
           (λ (e : flips_touch q (turns_of (tasks (length ts)) r.home.star) ≡ true). inr (ap (λ (x : VertexStar). flips_touch q (turns_of (tasks (length ts)) x)) (sym (home_is s entries w t r.home f h)) ∙ e)) (r.among q has);
     }
 
-both_so : (b c : Bool) → (b && c) ≡ true → (b ≡ true) × (c ≡ true)
-both_so true c h = (refl, h)
-both_so false c h = absurd (true≢false (sym h))
-
-first_or_later : (b c : Bool) → (b || c) ≡ true → (b ≡ true) ⊎ (c ≡ true)
-first_or_later true c h = inl refl
-first_or_later false c h = inr h
-
 had_run : (s : Scene) (entries : List JournalEntry) (w : ℕ) (tasks : ℕ → Task) (ts : List Try) (answers : List Tried) (own : List JournalEntry) (q : ℕ) → Rises s.start → AllByRecursion (λ t. t.won ≡ true → Fitting s entries w t) ts → OwnRun tasks s.round w ts answers own → has_won ts q ≡ true
     → HadIn s entries tasks (marks_of ts) q
 had_run s entries w tasks [] answers own q rises fits run has = absurd (true≢false (sym has))
 had_run s entries w tasks (t ∷ ts) answers own q rises fits run has =
-    ⊎_elim (λ (h : (t.won && has_item t.note q) ≡ true). let b = both_so t.won (has_item t.note q) h in had_now s entries w tasks t ts run.was own run.last q rises b.0 (fits.0 b.0) run.one b.1)
+    ⊎_elim (λ (h : (t.won && has_item t.note q) ≡ true). let b = and_parts t.won (has_item t.note q) h in had_now s entries w tasks t ts run.was own run.last q rises b.0 (fits.0 b.0) run.one b.1)
     (λ (h : has_won ts q ≡ true). had_later s entries tasks (marks_of ts) (mark_of t) q (had_run s entries w tasks ts run.earlier run.was q rises fits.1 run.before h))
-    (first_or_later (t.won && has_item t.note q) (has_won ts q) has)
+    (or_cases (t.won && has_item t.note q) (has_won ts q) has)
 
 -- a place that a won note of the worker has
 pub had : (s : Scene) (entries : List JournalEntry) (w : ℕ) (tasks : ℕ → Task) (tries : List Try) (answers : List Tried) (own : List JournalEntry) (q : ℕ) → Rises s.start → AllByRecursion (λ t. t.won ≡ true → Fitting s entries w t) tries → OwnAll tasks s.round w tries answers own → has_won tries q ≡ true

@@ -12,13 +12,14 @@ use Rattle.anneal_plan.specs.Proposals.{allowed_of}
 use Rattle.board_rule.specs.declared.about.About.{About}
 use Rattle.board_rule.specs.declared.kept.Kept.{Kept}
 use Rattle.board_rule.specs.declared.view.Chief.{Chief}
+use Rattle.board_rule.specs.Tries.{Unrefused}
 use Rattle.vertex_claims.specs.Ended.{IsEnd}
 use Rattle.vertex_claims.specs.MarkLists.{MarkList}
 use Rattle.vertex_claims.specs.Marks.{marks_of}
 use Rattle.vertex_claims.specs.declared.mark.Mark.{Mark}
 use Rattle.vertex_claims.specs.declared.mark.Found.TheVariants.{Won}
 use Rattle.round_rules.specs.Accounts.{OwnAll, Done}
-use Rattle.round_rules.specs.Outcomes.{Outcome, BlockedRow, Unrefused, star_at}
+use Rattle.round_rules.specs.Outcomes.{Outcome, BlockedRow, star_at}
 use Rattle.round_rules.specs.Rounds.{RoundView, RoundOk}
 use Rattle.round_rules.specs.Tasks.{Scene, Task, task_at, turns_of, changes}
 use Rattle.round_rules.specs.declared.tried.Tried.{Tried}
@@ -67,7 +68,7 @@ RoundGrows = (s : Scene) (r : RoundView) (end : Space) → IsComplex s.start →
 -- a try that won its place, of which no later claim was refused, with flips that its phase allows and of which none is blocked after any such beginning, commits, unless it quits or wants memory
 abbrev pub TryCommits : Type 0
 TryCommits = (s : Scene) (entries : List JournalEntry) (w : ℕ) (task : Task) (earlier version : ℕ) (m : Mark) (a : Tried) (rows : List (List ℕ)) →
-    Outcome s entries w task earlier m a → m.found ≡ Won version → At s.start entries m.place version rows → Unrefused m
+    Outcome s entries w task earlier m a → m.found ≡ Won version → At s.start entries m.place version rows → Unrefused m.vertices m.journal
     → turns_of task (star_at s m.place rows) ≢ []
     → changes task.dim (turns_of task (star_at s m.place rows)) ≤ℤ allowed_of task.dim task.phase
     → ((f : Flip) → BlockedRow s entries w earlier version m f (turns_of task (star_at s m.place rows)) → ⊥)

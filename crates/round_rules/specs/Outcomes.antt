@@ -9,6 +9,7 @@ use Rattle.flip_rules.specs.declared.flip.Illegal.TheVariants.{BIsFace}
 use Rattle.star_laws.specs.Stars.{flips_touch}
 use Rattle.stars.specs.StarViews.{VertexStar}
 use Rattle.anneal_plan.specs.Proposals.{allowed_of}
+use Rattle.board_rule.specs.Tries.{Unrefused}
 use Rattle.vertex_claims.specs.declared.mark.Mark.{Mark}
 use Rattle.vertex_claims.specs.declared.mark.Found.{Found}
 use Rattle.vertex_claims.specs.declared.mark.Found.TheVariants.{Won, Lost}
@@ -40,10 +41,6 @@ pub record LegalAfter (s : Scene) (entries : List JournalEntry) (w earlier p ver
 
 -- ---- the rows of the answers
 
--- no later claim of the try was refused
-abbrev pub Unrefused : Mark → Type 0
-Unrefused m = (m.vertices ≡ 0) × (m.journal ≡ 0)
-
 -- one later claim was refused, at another place, which is a label of the flips
 pub record VertexRefused (m : Mark) (q : ℕ) (flips : List Flip) : Type 0 where
   pub other : q ≢ m.place
@@ -73,7 +70,7 @@ pub record BlockedRow (s : Scene) (entries : List JournalEntry) (w earlier versi
   pub member : flips ≡ front ++ f ∷ rest
   pub legal : LegalAfter s entries w earlier m.place version front
   pub face : why legal.end f.a f.b ≡ Err BIsFace
-  pub unrefused : Unrefused m
+  pub unrefused : Unrefused m.vertices m.journal
 
 -- the flips are legal, and make too many facets
 pub record DeclinedRow (s : Scene) (entries : List JournalEntry) (w : ℕ) (task : Task) (earlier version : ℕ) (m : Mark) (c : ℤ) (flips : List Flip) : Type 0 where
@@ -81,7 +78,7 @@ pub record DeclinedRow (s : Scene) (entries : List JournalEntry) (w : ℕ) (task
   pub legal : LegalAfter s entries w earlier m.place version flips
   pub sum : c ≡ changes task.dim flips
   pub above : allowed_of task.dim task.phase <ℤ c
-  pub unrefused : Unrefused m
+  pub unrefused : Unrefused m.vertices m.journal
 
 -- the flips are an entry, and the journal before it is such a beginning
 pub record CommittedRow (s : Scene) (entries : List JournalEntry) (w : ℕ) (task : Task) (earlier version : ℕ) (m : Mark) (number : ℕ) (flips : List Flip) : Type 0 where
@@ -108,7 +105,7 @@ pub record WantedRow (s : Scene) (entries : List JournalEntry) (w earlier versio
 abbrev pub Row : Scene → List JournalEntry → ℕ → Task → ℕ → ℕ → Mark → List Flip → Tried → Type 0
 Row s entries w task earlier version m flips (Committed n) = CommittedRow s entries w task earlier version m n flips
 Row s entries w task earlier version m flips (Busy q o) = BusyRow s entries w task earlier version m q o flips
-Row s entries w task earlier version m flips Nothing = (flips ≡ []) × Unrefused m
+Row s entries w task earlier version m flips Nothing = (flips ≡ []) × Unrefused m.vertices m.journal
 Row s entries w task earlier version m flips (Blocked f) = BlockedRow s entries w earlier version m f flips
 Row s entries w task earlier version m flips (Declined c) = DeclinedRow s entries w task earlier version m c flips
 Row s entries w task earlier version m flips Quit = ⊤

@@ -9,7 +9,7 @@ use Rattle.flip_rules.specs.declared.flip.Illegal.TheVariants.{BIsFace}
 use Rattle.star_laws.specs.Stars.{flips_touch, LabelsPass}
 use Rattle.board_rule.specs.Items.{item, has_item}
 use Rattle.board_rule.specs.Plays.{IsRefused}
-use Rattle.board_rule.specs.Tries.{Try}
+use Rattle.board_rule.specs.Tries.{Try, Unrefused}
 use Rattle.board_rule.specs.Views.{star_in}
 use Rattle.board_rule.specs.declared.data.Home.{Home}
 use Rattle.anneal_plan.specs.Proposals.{allowed_of}
@@ -30,10 +30,6 @@ pub record ReplaysOn (d : ℕ) (note : List (ℕ × Home)) (flips : List Flip) :
   pub stars : HasStars d note complex
   pub labels : LabelsPass (has_item note) flips
   pub replays : replay complex flips ≡ Some end
-
--- no later claim was refused
-abbrev pub Unrefused : Try → Type 0
-Unrefused t = (t.vertices ≡ 0) × (t.journal ≡ 0)
 
 -- one later claim was refused, at another place, which is a label of the flips
 pub record VertexRefused (t : Try) (q : ℕ) (flips : List Flip) : Type 0 where
@@ -66,7 +62,7 @@ pub record BlockedOwn (task : Task) (t : Try) (f : Flip) (flips : List Flip) : T
   pub legal : ReplaysOn task.dim t.note before
   pub labels : LabelsPass (has_item t.note) (f ∷ [])
   pub face : why legal.end f.a f.b ≡ Err BIsFace
-  pub unrefused : Unrefused t
+  pub unrefused : Unrefused t.vertices t.journal
 
 -- the flips are legal, and make too many facets
 pub record DeclinedOwn (task : Task) (t : Try) (c : ℤ) (flips : List Flip) : Type 0 where
@@ -74,7 +70,7 @@ pub record DeclinedOwn (task : Task) (t : Try) (c : ℤ) (flips : List Flip) : T
   pub legal : ReplaysOn task.dim t.note flips
   pub sum : c ≡ changes task.dim flips
   pub above : allowed_of task.dim task.phase <ℤ c
-  pub unrefused : Unrefused t
+  pub unrefused : Unrefused t.vertices t.journal
 
 -- the flips are the next entry of the worker
 pub record CommittedOwn (task : Task) (round w : ℕ) (t : Try) (s : ℕ) (was now : List JournalEntry) (flips : List Flip) : Type 0 where
@@ -99,7 +95,7 @@ pub record WantedOwn (task : Task) (t : Try) (flips : List Flip) : Type 0 where
 abbrev pub OwnRow : Task → ℕ → ℕ → Try → List JournalEntry → List JournalEntry → List Flip → Tried → Type 0
 OwnRow task round w t was now flips (Committed s) = CommittedOwn task round w t s was now flips
 OwnRow task round w t was now flips (Busy q o) = BusyOwn task w t q o flips × (now ≡ was)
-OwnRow task round w t was now flips Nothing = (flips ≡ []) × Unrefused t × (now ≡ was)
+OwnRow task round w t was now flips Nothing = (flips ≡ []) × Unrefused t.vertices t.journal × (now ≡ was)
 OwnRow task round w t was now flips (Blocked f) = BlockedOwn task t f flips × (now ≡ was)
 OwnRow task round w t was now flips (Declined c) = DeclinedOwn task t c flips × (now ≡ was)
 OwnRow task round w t was now flips Quit = now ≡ was

@@ -96,10 +96,6 @@ left_more m ds rs i all d then_all es h e r t =
           ∙ ap (λ fs. fs ++ named_flips m rest) (sym t);
     }
 
--- all legs
-pub left_none : (m : List (ℕ × ℕ)) (ds : List (List Flip)) (rs : List RoundView) (i : ℕ) (all : List Flip) → Left m ds rs i all → length ds ≤ i → all ≡ named_flips m (left ds rs 0)
-left_none m ds rs i all h l = sym (h.told ∙ ap (λ xs. all ++ named_flips m (flat (history_from i xs (drop i rs)))) (drop_all i ds l) ∙ append-nil all)
-
 -- the round behind the descent at this place, where there is one
 pub with_round : (rs shown : List RoundView) (i : ℕ) (r : RoundView) (es : List JournalEntry) → shown ≡ rs → i < length shown → r ≡ get_or shown i r → es ≡ r.entries → es ≡ next_entries (drop i rs)
 with_round rs shown i r es s l e f =

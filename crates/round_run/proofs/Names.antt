@@ -1,19 +1,17 @@
 -- The labels of a chain are places, and places have names.
-use Rattle.std.proofs.Common.{◌≡◌, ℕ, ◌+◌, ◌-◌, ◌<◌, ◌≤◌, zero, suc, get_or, Bool, true, nat_eq, ◌||◌, List, [], ◌∷◌, ◌++◌, length, Some, sym, ◌∙◌, ap, refl, subst, arith, length-append, inl, inr}
+use Rattle.std.proofs.Common.{◌≡◌, ℕ, ◌+◌, ◌-◌, ◌<◌, ◌≤◌, Bool, true, nat_eq, ◌||◌, List, [], ◌∷◌, ◌++◌, length, Some, sym, ◌∙◌, ap, refl, subst, arith, length-append, inl, inr}
 use Rattle.std.specs.List.{AllByRecursion, flat_map, list_all}
 use Rattle.std.specs.Ordering.{nat_cmp}
-use Rattle.std.specs.declared.cmp.Ordering.TheVariants.{Less}
 use Rattle.std.specs.Cmp.Derive.{both_true}
 use Rattle.std.proofs.lemmas.List.Folds.{list_all-append}
-use Rattle.std.proofs.lemmas.Bool.Decides.{nat_tests}
-use Rattle.complex_core.specs.Labels.{IsFace, IsRising, has}
+use Rattle.complex_core.specs.Labels.{IsRising, has}
 use Rattle.complex_core.specs.Maps.{ArePositive, IsMap, takes, names_of, numbered, next_after, used, greatest}
 use Rattle.complex_core.specs.Spaces.{Space}
 use Rattle.std.proofs.lemmas.Cmp.{nat_cmp_total}
-use Rattle.complex_core.proofs.Sets.{Above, above_cons, above_head, sorted_rising}
-use Rattle.complex_core.proofs.Faces.{cmp_less, less_cmp}
+use Rattle.complex_core.proofs.Sets.{Above, above_cons, sorted_rising}
+use Rattle.complex_core.proofs.Faces.{cmp_less}
 use Rattle.complex_core.proofs.Laws.{each_has, nat_eq_is, or_left, or_right, passes_listed}
-use Rattle.complex_core.proofs.Places.{at_least_place}
+use Rattle.complex_core.proofs.Places.{length_numbered, length_next, few_used, place_named}
 use Rattle.complex_core.proofs.SubsetLists.{two, clash}
 use Rattle.flip_rules.specs.Entries.{JournalEntry}
 use Rattle.flip_rules.specs.Flips.{OfFaces, flipped, replay}
@@ -22,7 +20,6 @@ use Rattle.flip_rules.specs.declared.flip.Flip.{Flip}
 use Rattle.flip_rules.proofs.Replays.{replay_dim}
 use Rattle.flip_names.specs.Names.{takes_flip, takes_flips}
 use Rattle.flip_names.specs.Laws.{Renames, HasPositiveIndex}
-use Rattle.flip_names.proofs.Images.{passes_has}
 use Rattle.flip_names.proofs.Replays.{replay_stays_taken}
 use Rattle.flip_names.proofs.Staying.{reducing_flips_taken}
 use Rattle.star_laws.specs.Stars.{flips_touch}
@@ -38,15 +35,10 @@ use Rattle.round_rules.specs.Rounds.{RoundView, RoundOk}
 use Rattle.round_run.specs.Reports.{Chain, history_from, descent_entries, scene}
 use Rattle.round_run.proofs.Histories.{flat_descent}
 use Rattle.flip_rules.proofs.Journals.{flat-append}
+use Rattle.complex_core.proofs.Members.{passes_has, label_low}
+use Rattle.round_rules.proofs.Ending.{faces_in}
 
 -- ---- which places have names
-
-numbered_takes : (k : ℕ) (xs : List ℕ) (p : ℕ) → k ≤ p → p < k + length xs → takes (numbered k xs) p ≡ true
-numbered_takes k [] p low high = absurd (omega (arith, low, high))
-numbered_takes k (x ∷ xs) p low high = elim (two (nat_eq k p)) [
-  | inl e ↦ or_left (nat_eq k p) (takes (numbered (k + 1) xs) p) e
-  | inr e ↦ or_right (nat_eq k p) (takes (numbered (k + 1) xs) p) (numbered_takes (k + 1) xs p (grind (arith, nat_tests)) (omega (arith, high)))
-]
 
 taken_numbered : (k : ℕ) (xs : List ℕ) (p : ℕ) → takes (numbered k xs) p ≡ true → p < k + length xs
 taken_numbered k [] p t = clash true refl (sym t)
@@ -54,10 +46,6 @@ taken_numbered k (x ∷ xs) p t = elim (two (nat_eq k p)) [
   | inl e ↦ omega (arith, nat_eq_is k p e)
   | inr e ↦ omega (arith, taken_numbered (k + 1) xs p (sym (ap (λ b. b || takes (numbered (k + 1) xs) p) e) ∙ t))
 ]
-
-length-numbered : (k : ℕ) (xs : List ℕ) → length (numbered k xs) ≡ length xs
-length-numbered k [] = refl
-length-numbered k (x ∷ xs) = ap suc (length-numbered (k + 1) xs)
 
 -- the places that have names are those from 1 to their number
 pub record NamesPlaces (m : List (ℕ × ℕ)) : Type 0 where
@@ -67,23 +55,11 @@ pub record NamesPlaces (m : List (ℕ × ℕ)) : Type 0 where
 pub names_places : (fs : List (List ℕ)) (room : ℕ) (m : List (ℕ × ℕ)) → m ≡ names_of fs room → NamesPlaces m
 names_places fs room m e =
     let xs : List ℕ = used fs ++ next_after (greatest (used fs)) room in
-    let long : length (numbered 1 xs) ≡ length xs = length-numbered 1 xs in
+    let long : length (numbered 1 xs) ≡ length xs = length_numbered 1 xs in
     subst NamesPlaces (sym e) (record {
-      all = λ p low high. numbered_takes 1 xs p (omega (arith, low)) (omega (arith, high, long));
+      all = λ p low high. place_named 1 xs p (omega (arith, low)) (omega (arith, high, long));
       most = λ p t. omega (arith, taken_numbered 1 xs p t, long);
     })
-
-length-next_after : (n room : ℕ) → length (next_after n room) ≡ room
-length-next_after n zero = refl
-length-next_after n (suc room) = ap suc (length-next_after (n + 1) room)
-
--- a label is at least its number
-long_at_most : (xs : List ℕ) → IsRising xs → length xs ≤ greatest xs
-long_at_most [] s = omega arith
-long_at_most (x ∷ xs) s =
-    let i : ℕ = length (x ∷ xs) - 1 in
-    let low : 0 + i + 1 ≤ get_or (x ∷ xs) i 0 = at_least_place 0 (x ∷ xs) i s (omega arith) in
-    omega (arith, low)
 
 labels_positive : (k : ℕ) (xs ys : List ℕ) → ArePositive (numbered k (xs ++ ys)) → Above nat_cmp 0 xs
 labels_positive k [] ys h = tt
@@ -95,7 +71,7 @@ places_few fs room m h e few =
     let spare : List ℕ = next_after (greatest (used fs)) room in
     let low : Above nat_cmp 0 (used fs) = labels_positive 1 (used fs) spare (subst ArePositive e h.positive) in
     let rises : IsRising (used fs) = above_cons nat_cmp 0 (used fs) low (sorted_rising nat_cmp_total (flat_map (λ f. f) fs)) in
-    omega (arith, ap length e, length-numbered 1 (used fs ++ spare), length-append (used fs) spare, length-next_after (greatest (used fs)) room, long_at_most (used fs) rises, few)
+    omega (arith, ap length e, length_numbered 1 (used fs ++ spare), length-append (used fs) spare, length_next (greatest (used fs)) room, few_used (used fs) rises, few)
 
 -- no label above their number
 pub uses_places : (m : List (ℕ × ℕ)) (k : Space) → NamesPlaces m → Renames m k → UsesUpTo k (length m)
@@ -127,16 +103,6 @@ descent_named m k end flips r d =
 
 -- ---- entries
 
-label_low : (f : List ℕ) (x : ℕ) → IsFace f → has f x ≡ true → 0 < x
-label_low f x h t = low f x (above_head nat_cmp 0 f h.rising) t
-  where
-    low : (g : List ℕ) (z : ℕ) → AllByRecursion (λ y. nat_cmp 0 y ≡ Less) g → has g z ≡ true → 0 < z
-    low [] z a t = clash true refl (sym t)
-    low (y ∷ g) z a t = elim (two (nat_eq y z)) [
-      | inl e ↦ omega (arith, less_cmp 0 y a.0, nat_eq_is y z e)
-      | inr e ↦ low g z a.1 (sym (ap (λ b. b || has g z) e) ∙ t)
-    ]
-
 flips_taken : (m : List (ℕ × ℕ)) (flips : List Flip) → NamesPlaces m → AllByRecursion OfFaces flips → ((p : ℕ) → flips_touch p flips ≡ true → p ≤ length m) → takes_flips m flips ≡ true
 flips_taken m [] n faces h = refl
 flips_taken m (f ∷ fs) n faces h =
@@ -145,14 +111,6 @@ flips_taken m (f ∷ fs) n faces h =
     (each_has (takes m) f.a (λ x t. n.all x (label_low f.a x faces.0.first t) (h x (or_left (has f.a x || has f.b x) (flips_touch x fs) (or_left (has f.a x) (has f.b x) t)))))
     (each_has (takes m) f.b (λ x t. n.all x (label_low f.b x faces.0.second t) (h x (or_left (has f.a x || has f.b x) (flips_touch x fs) (or_right (has f.a x) (has f.b x) t))))))
     (flips_taken m fs n faces.1 (λ p t. h p (or_right (has f.a p || has f.b p) (flips_touch p fs) t)))
-
-pub each_append : {K : Type 0} (P : K → Type 0) (xs ys : List K) → AllByRecursion P xs → AllByRecursion P ys → AllByRecursion P (xs ++ ys)
-each_append P [] ys h g = g
-each_append P (x ∷ xs) ys h g = (h.0, each_append P xs ys h.1 g)
-
-entries_faces : (round places seats : ℕ) (es : List JournalEntry) → AllByRecursion (IsEntry round places seats) es → AllByRecursion OfFaces (flat es)
-entries_faces round places seats [] h = tt
-entries_faces round places seats (e ∷ es) h = each_append OfFaces e.flips (flat es) h.0.faces (entries_faces round places seats es h.1)
 
 pub passes_append : {A : Type 0} (p : A → Bool) (xs ys : List A) → list_all p xs ≡ true → list_all p ys ≡ true → list_all p (xs ++ ys) ≡ true
 passes_append p xs ys f g = list_all-append p xs ys ∙ both_true f g
@@ -163,7 +121,7 @@ entries_taken m round seats (e ∷ es) n h = passes_append (takes_flip m) e.flip
 
 round_named : (m : List (ℕ × ℕ)) (plan : Numbers) (round : ℕ) (k end : Space) (r : RoundView) → NamesPlaces m → Renames m k → RoundOk (scene k (length m) round plan) r end → IsNamed m k (flat r.entries) end
 round_named m plan round k end r n named_k h =
-    named_replay m k end (flat r.entries) named_k (entries_faces _ _ _ r.entries h.entries) (entries_taken m _ _ r.entries n h.entries) h.replays
+    named_replay m k end (flat r.entries) named_k (faces_in _ _ _ r.entries h.entries) (entries_taken m _ _ r.entries n h.entries) h.replays
 
 -- ---- chains
 

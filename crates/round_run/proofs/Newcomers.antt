@@ -9,7 +9,6 @@ use Rattle.complex_core.specs.Maps.{used, next_after}
 use Rattle.complex_core.proofs.Faces.{less_cmp}
 use Rattle.complex_core.proofs.Sets.{each_rising, some_rising}
 use Rattle.stars.specs.StarViews.{UsesUpTo}
-use Rattle.stars.proofs.Changing.{each_filter}
 use Rattle.board_rule.specs.Views.{newcomer}
 use Rattle.board_rule.specs.declared.view.Hand.{Hand}
 use Rattle.vertex_claims.specs.Passes.{IsOf, IsTold, know, limit, start_of, places_on}
@@ -17,11 +16,12 @@ use Rattle.vertex_claims.specs.declared.board.Board.{Board}
 use Rattle.vertex_claims.specs.declared.pass.Pass.{Pass}
 use Rattle.anneal_plan.specs.Numbers.{Numbers}
 use Rattle.anneal_plan.specs.Places.{free_of}
-use Rattle.anneal_plan.proofs.Gaps.{labels_above}
 use Rattle.round_rules.specs.Tasks.{Scene}
 use Rattle.spec_worker.specs.Workers.{ArePlaces, pass_of, plan_of, round_in, live_of, free_of as free_to, answers_of}
 use Rattle.spec_worker.specs.declared.worker.Worker.{Worker}
 use Rattle.round_run.specs.Crews.{IsNew, AreNew}
+use Rattle.complex_core.proofs.Sorting.{each_filter}
+use Rattle.complex_core.proofs.Renaming.{labels_above}
 
 -- ---- places
 

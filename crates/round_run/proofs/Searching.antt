@@ -15,7 +15,8 @@ use Rattle.round_rules.specs.Rounds.{RoundView, RoundOk}
 use Rattle.round_run.specs.Reports.{ReportView, Chain, IsElsewhere, IsSphere, IsUndecided, history, scene}
 use Rattle.round_run.specs.Searches.{Stands}
 use Rattle.round_run.proofs.Chains.{chain_long, chain_more, chain_some}
-use Rattle.round_run.proofs.Names.{IsNamed, chain_named, each_append, names_places, places_few, uses_places}
+use Rattle.round_run.proofs.Names.{IsNamed, chain_named, names_places, places_few, uses_places}
+use Rattle.complex_core.proofs.Sorting.{each_append}
 
 -- ---- what is known where it stands
 

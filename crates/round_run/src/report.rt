@@ -6,7 +6,7 @@ ghost use Rattle.flip_names.specs.Names.{named_flips, takes_flips};
 
 use crate::record::RoundRecord;
 use complex_core::{Complex, VertexMap};
-use flip_names::named_flip;
+use flip_names::push_named;
 use flip_rules::{Entry, Flip};
 use std::alloc::{AllocError, Global};
 use std::marker::Model;
@@ -37,20 +37,6 @@ impl Model for Report {
 
     // Each label of its flips has a name.
     ghost invariant = { λ r. takes_flips r.names (flat (history_from 0 (map (λ v. v.items) r.descents.items) r.rounds.items)) ≡ true };
-}
-
-// Adds flips in other labels, where each of their labels has a name.
-fn push_named(all: &mut Vec<Flip>, flips: &[Flip], names: &VertexMap) -> Result<(), AllocError>
-    requires { takes_flips names.now flips.now ≡ true }
-    ensures { OnOk result (all.new.items ≡ all.old.items ++ named_flips names.now flips.now) }
-{
-    for flip in flips {
-        match named_flip(flip, names) {
-            Some(named) => all.push(named)?,
-            None => unreachable!(),
-        }
-    }
-    Ok(())
 }
 
 // Adds the flips of entries in other labels, where each of their labels has a name.

@@ -27,7 +27,8 @@ use Rattle.round_rules.specs.Tasks.{Task}
 use Rattle.spec_worker.specs.Trying.{IsFit, IsTold, IsStoryOf, Turned, IsNext}
 use Rattle.spec_worker.specs.declared.turning.Order.{Order}
 use Rattle.spec_worker.proofs.Turns.{home_dim}
-use Rattle.spec_worker.proofs.Within.{Within, either, each_more, within_star}
+use Rattle.spec_worker.proofs.Within.{Within, each_more, within_star}
+use Rattle.stars.proofs.Mapping.{either}
 
 -- the flips that follow those that were made
 abbrev pub rest_of : Task → Story → Hold → List Flip

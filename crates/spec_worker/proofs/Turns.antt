@@ -35,7 +35,9 @@ use Rattle.round_rules.specs.Tasks.{Task}
 use Rattle.round_rules.specs.declared.tried.Tried.{Tried}
 use Rattle.round_rules.specs.declared.tried.Tried.TheVariants.{Busy, Blocked, Quit, NoMemory}
 use Rattle.spec_worker.specs.Trying.{Turned, IsNext, Ended}
-use Rattle.spec_worker.proofs.Within.{either, touched_one}
+use Rattle.spec_worker.proofs.Within.{touched_one}
+use Rattle.stars.proofs.Mapping.{either}
+use Rattle.anneal_plan.proofs.Turning.{after_more}
 
 -- ---- labels of flips
 
@@ -59,10 +61,6 @@ pub next_shape : (s : Story) (dim : ℕ) (pass : Pass) (h : Hold) (f : Flip) (ne
 next_shape s dim pass h f next n = subst (λ (d : ℕ). Shaped d f.a f.b) (home_dim s (know pass) pass.sees n.turned.going ∙ n.dim_is) n.fits.shape
 
 -- ---- a flip is made
-
-after_more : (s : VertexStar) (front : List Flip) (f : Flip) → after_flip (after_flips s front) f ≡ after_flips s (front ++ f ∷ [])
-after_more s [] f = refl
-after_more s (g ∷ front) f = after_more (after_flip s g) front f
 
 -- how a try stands once the labels of its next flip are held
 pub record Claimed (s : Story) (f : Flip) (next : List Flip) (pass : Pass) (h : Hold) : Type 0 where

@@ -1,9 +1,8 @@
 -- The run of a worker, try after try.
-use Rattle.std.proofs.Common.{◌≡◌, ◌⊎◌, ℕ, zero, suc, ◌+◌, ◌*◌, ◌<◌, ◌≤◌, List, [], ◌∷◌, ◌++◌, length, sym, ◌∙◌, ap, refl, subst, inl, inr, arith}
+use Rattle.std.proofs.Common.{◌≡◌, ◌⊎◌, ℕ, ◌+◌, ◌*◌, ◌<◌, ◌≤◌, List, [], ◌∷◌, ◌++◌, length, sym, ◌∙◌, ap, refl, subst, inl, inr, arith}
 use Rattle.std.proofs.lemmas.List.{length-append}
 use Rattle.std.specs.List.{AllByRecursion}
-use Rattle.rand_pcg.specs.Lcg.{Lcg, state_after}
-use Rattle.rand_pcg.specs.Pcg.{pcg32}
+use Rattle.rand_pcg.specs.Lcg.{Lcg}
 use Rattle.complex_core.proofs.Sorting.{each_append}
 use Rattle.flip_rules.specs.Entries.{JournalEntry}
 use Rattle.board_rule.specs.Tries.{Try}
@@ -21,21 +20,10 @@ use Rattle.round_rules.specs.declared.tried.Tried.{Tried}
 use Rattle.round_rules.specs.declared.tried.Tried.TheVariants.{Committed, Busy, Nothing, Blocked, Declined, Quit, NoMemory}
 use Rattle.spec_worker.specs.Workers.{Works, IsSameWorker, ArePlaces, pass_of, number_of, tries_of, mine_of, answers_of, plan_of, round_in, live_of, free_of, task_of, task_in}
 use Rattle.spec_worker.specs.declared.worker.Worker.{Worker}
+use Rattle.anneal_plan.proofs.WordLists.{after-zero, after-add}
+use Rattle.held_stars.proofs.LentStars.{same_passes}
 
 -- ---- the words of each try
-
-after-suc : (n : ℕ) (g : Lcg) → after_words g (suc n) ≡ after_words (pcg32 g).1 n
-unfolding state_after
-after-suc n g = refl
-
-after-zero : (g : Lcg) → after_words g 0 ≡ g
-unfolding state_after
-after-zero g = refl
-
-after-add : (i n : ℕ) (g : Lcg) → after_words g (i + n) ≡ after_words (after_words g i) n
-after-add zero n g = ap (after_words g) (let e : 0 + n ≡ n = omega arith in e) ∙ ap (λ s. after_words s n) (sym (after-zero g))
-after-add (suc i) n g =
-    ap (after_words g) (let e : suc i + n ≡ suc (i + n) = omega arith in e) ∙ after-suc (i + n) g ∙ after-add i n (pcg32 g).1 ∙ ap (λ s. after_words s n) (sym (after-suc i g))
 
 -- draw t is followed by draw t + 1
 after_draw : (t : ℕ) (g : Lcg) → after_words (after_words g (8 * t)) 8 ≡ after_words g (8 * (t + 1))
@@ -73,9 +61,6 @@ own_more tasks round w ts us was now xs a run one =
     subst (λ (l : List Try). OwnRun tasks round w l (xs ++ a ∷ []) now) (sym one.1) step
 
 -- ---- workers
-
-same_passes : (a b c : Pass) → IsSame a b → IsSame b c → IsSame a c
-same_passes a b c f g = record { table = g.table ∙ f.table; worker = g.worker ∙ f.worker; places = g.places ∙ f.places; limit = g.limit ∙ f.limit }
 
 pub same_workers : (a b c : Worker) → IsSameWorker a b → IsSameWorker b c → IsSameWorker a c
 same_workers a b c f g = record {

@@ -12,24 +12,17 @@ use Rattle.flip_rules.specs.declared.flip.Illegal.{Illegal}
 use Rattle.flip_rules.proofs.Links.{side_of, listed-flipped}
 use Rattle.star_laws.specs.Stars.{star, flips_touch}
 use Rattle.stars.specs.StarViews.{VertexStar, UsesUpTo}
-use Rattle.stars.proofs.Mapping.{has_bound, uses_of, uses_from}
+use Rattle.stars.proofs.Mapping.{has_bound, uses_of, uses_from, either}
 use Rattle.board_rule.specs.Plays.{Sees}
 use Rattle.board_rule.specs.Views.{star_in}
 use Rattle.board_rule.specs.declared.view.Hand.{Hand}
 use Rattle.anneal_plan.specs.Fits.{FitsStar}
 use Rattle.spec_worker.specs.Workers.{ArePlaces}
+use Rattle.std.specs.Cmp.{first_so}
 
 -- the labels of these flips are at most n
 abbrev pub Within : ℕ → List Flip → Type 0
 Within n flips = (q : ℕ) → flips_touch q flips ≡ true → q ≤ n
-
-pub either : (x y : Bool) (C : Type 0) → (x || y) ≡ true → (x ≡ true → C) → (y ≡ true → C) → C
-either true y C h f g = f refl
-either false y C h f g = g h
-
-first_of_two : (x y : Bool) → (x && y) ≡ true → x ≡ true
-first_of_two true y h = refl
-first_of_two false y h = h
 
 -- a label of a list of one flip is one of the flip
 pub touched_one : (q : ℕ) (f : Flip) → flips_touch q (f ∷ []) ≡ true → flip_touches q f ≡ true
@@ -43,11 +36,11 @@ touched_one q f t = by (flip_touches q f) t
 uses_flipped : (k : Space) (f : Flip) (n : ℕ) → UsesUpTo k n → ((q : ℕ) → flip_touches q f ≡ true → q ≤ n) → UsesUpTo (flipped k f.a f.b) n
 uses_flipped k f n h few = uses_from (flipped k f.a f.b) n (λ g p t e.
     either (listed k.facets g && not (holds g f.a)) (listed (sides f.b f.a) g) (p ≤ n) (sym (listed-flipped k f.a f.b g) ∙ t)
-    (λ r. uses_of k n g p h (first_of_two (listed k.facets g) (not (holds g f.a)) r) e)
+    (λ r. uses_of k n g p h (first_so (listed k.facets g) (not (holds g f.a)) r) e)
     (λ r. let s = side_of f.b f.a g r in
     either (has f.b p) (has (without f.a s.0) p) (p ≤ n) (sym (has-union f.b (without f.a s.0) p) ∙ ap (λ (x : List ℕ). has x p) (sym s.2) ∙ e)
     (λ q. few p (or_right (has f.a p) (has f.b p) q))
-    (λ q. few p (or_left (has f.a p) (has f.b p) (first_of_two (has f.a p) (not (nat_eq p s.0)) (sym (has-without f.a s.0 p) ∙ q))))))
+    (λ q. few p (or_left (has f.a p) (has f.b p) (first_so (has f.a p) (not (nat_eq p s.0)) (sym (has-without f.a s.0 p) ∙ q))))))
 
 uses_replayed : (k m : Space) (flips : List Flip) (n : ℕ) → UsesUpTo k n → Within n flips → replay k flips ≡ Some m → UsesUpTo m n
 uses_replayed k m [] n h few e = let is : k ≡ m = cc in subst (λ (j : Space). UsesUpTo j n) is h
@@ -60,7 +53,7 @@ uses_replayed k m (f ∷ fs) n h few e = by (why k f.a f.b) e
 
 -- a label of a star is one of the complex
 uses_star : (k : Space) (p n : ℕ) → UsesUpTo k n → UsesUpTo (record { dim = k.dim; facets = star k.facets p }) n
-uses_star k p n h = uses_from (record { dim = k.dim; facets = star k.facets p }) n (λ g q t e. uses_of k n g q h (first_of_two (listed k.facets g) (holds g (p ∷ [])) (sym (listed-filter (λ (f : List ℕ). holds f (p ∷ [])) k.facets g) ∙ t)) e)
+uses_star k p n h = uses_from (record { dim = k.dim; facets = star k.facets p }) n (λ g q t e. uses_of k n g q h (first_so (listed k.facets g) (holds g (p ∷ [])) (sym (listed-filter (λ (f : List ℕ). holds f (p ∷ [])) k.facets g) ∙ t)) e)
 
 pub each_more : {P Q : ℕ → Type 0} → ((x : ℕ) → P x → Q x) → (xs : List ℕ) → AllByRecursion P xs → AllByRecursion Q xs
 each_more f [] h = tt

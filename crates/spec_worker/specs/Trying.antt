@@ -4,7 +4,7 @@ use Rattle.complex_core.specs.Labels.{has}
 use Rattle.complex_core.specs.Spaces.{Space}
 use Rattle.flip_rules.specs.declared.flip.Flip.{Flip}
 use Rattle.board_rule.specs.Items.{has_item}
-use Rattle.board_rule.specs.Tries.{Try}
+use Rattle.board_rule.specs.Tries.{Try, Unrefused}
 use Rattle.board_rule.specs.Views.{star_in}
 use Rattle.anneal_plan.specs.Fits.{FitsStar}
 use Rattle.anneal_plan.specs.Turns.{after_flips, turn_count}
@@ -12,7 +12,7 @@ use Rattle.vertex_claims.specs.Passes.{know}
 use Rattle.vertex_claims.specs.declared.pass.Pass.{Pass}
 use Rattle.held_stars.specs.Holding.{Story, Noting, Going, Made, Restorable, Settles}
 use Rattle.held_stars.specs.declared.hold.Hold.{Hold}
-use Rattle.round_rules.specs.Own.{Unrefused, BusyOwn, BlockedOwn, DeclinedOwn, CommittedOwn, WantedOwn}
+use Rattle.round_rules.specs.Own.{BusyOwn, BlockedOwn, DeclinedOwn, CommittedOwn, WantedOwn}
 use Rattle.round_rules.specs.Tasks.{Task, place_of, turns_of}
 use Rattle.round_rules.specs.declared.tried.Tried.{Tried}
 use Rattle.spec_worker.specs.Workers.{ArePlaces}
@@ -62,7 +62,7 @@ pub record IsNext (s : Story) (dim : ℕ) (pass : Pass) (h : Hold) (f : Flip) (n
 abbrev pub Why : Task → Story → Try → Tried → Type 0
 Why task s t (Committed n) = ⊥
 Why task s t (Busy q o) = BusyOwn task s.worker t q o s.flips
-Why task s t Nothing = (s.flips ≡ []) × Unrefused t
+Why task s t Nothing = (s.flips ≡ []) × Unrefused t.vertices t.journal
 Why task s t (Blocked f) = BlockedOwn task t f s.flips
 Why task s t (Declined c) = DeclinedOwn task t c s.flips
 Why task s t Quit = ⊤

@@ -18,7 +18,7 @@ ghost use Rattle.spec_worker.specs.Hearing.{is_quit};
 use anneal_plan::{Phase, proposal};
 use board_rule::{Home, Slot};
 use flip_rules::{Flip, FlipFault};
-use held_stars::{Gate, Hold, Point, Step, Stopped, claim_labels, make_flip};
+use held_stars::{Gate, Hold, Point, Stopped, claim_labels, make_flip};
 use round_rules::Tried;
 use std::alloc::Global;
 use vertex_claims::{Board, Pass};
@@ -36,15 +36,15 @@ pub(crate) struct Order<'a> {
     pub(crate) place: u16,
 }
 
-// Asks the gate at a point.
+// Asks the gate at a point, and answers as a try does.
 pub(crate) fn ask<G: Gate>(gate: &mut G, point: Point) -> Result<(), Tried>
     ensures later { G.quits gate.old ≤ G.quits gate.new }
     ensures quit { IfErr result (λ answer. (answer ≡ Tried.Quit) × (G.quits gate.old < G.quits gate.new)) }
     ensures heard { Follows (G.heard gate.old) (G.heard gate.new) (λ h g. g ≡ after_asked point (fails is_quit result) h) }
 {
-    match gate.at(point) {
-        Step::Go => Ok(()),
-        Step::Quit => Err(Tried::Quit),
+    match held_stars::ask(gate, point) {
+        Ok(()) => Ok(()),
+        Err(_) => Err(Tried::Quit),
     }
 }
 

@@ -1,8 +1,7 @@
 -- Closed and strongly connected complexes of dimension 1.
-use Rattle.std.proofs.Common.{◌≡◌, ◌⊎◌, inl, inr, ℕ, ◌≤◌, zero, suc, true, List, [], ◌∷◌, length, ◌∙◌, refl, subst, arith}
+use Rattle.std.proofs.Common.{◌≡◌, ◌⊎◌, inl, inr, ℕ, ◌≤◌, zero, suc, List, [], ◌∷◌, length, ◌∙◌, refl, subst, arith}
 use Rattle.std.specs.List.{AllByRecursion}
-use Rattle.std.specs.Cmp.{first_so, second_so}
-use Rattle.complex_core.specs.Maps.{IsMap, renamed, names_of}
+use Rattle.complex_core.specs.Maps.{renamed, names_of}
 use Rattle.complex_core.specs.Spaces.{Space, IsComplex}
 use Rattle.flip_rules.specs.Boundaries.{IsBoundary}
 use Rattle.flip_rules.specs.Certificates.{SphereCert}
@@ -13,9 +12,8 @@ use Rattle.flip_laws.specs.Keeping.{Keeps}
 use Rattle.flip_laws.specs.Obstacles.{LooksLikeSphere}
 use Rattle.flip_laws.proofs.Reaching.{reaching_looks}
 use Rattle.flip_laws.proofs.Replays.{replay_keeps}
-use Rattle.flip_names.specs.Names.{named_flips, takes_flip, takes_flips}
+use Rattle.flip_names.specs.Names.{named_flips}
 use Rattle.flip_names.specs.Laws.{RenamesAll, HasPositiveIndex, map_back}
-use Rattle.flip_names.proofs.Faces.{sizes_are_kept}
 use Rattle.flip_names.proofs.Replays.{certificate_is_kept}
 use Rattle.flip_names.proofs.Staying.{reducing_flips_taken}
 use Rattle.descent_laws.specs.Descents.{IsReducing}
@@ -25,6 +23,7 @@ use Rattle.descent_laws.proofs.Falling.{flip_falls}
 use Rattle.descent_laws.proofs.Reducing.{two_at_least}
 use Rattle.sphere_text.specs.Claims.{placed, CycleIsDecided}
 use Rattle.sphere_text.proofs.Grounds.{Ground, ground}
+use Rattle.flip_names.proofs.Back.{named_are_faces}
 
 -- flips that lead to the boundary of a simplex, and bring no new label
 record Reaches (k : Space) : Type 0 where
@@ -56,10 +55,6 @@ cycle_reaches : (n : ℕ) (k : Space) → length k.facets ≤ n → IsCycle k �
 cycle_reaches zero k l h = absurd (omega (arith, l, h.complex.some))
 cycle_reaches (suc n) k l h = cycle_step n k l h (λ m i c. cycle_reaches n m i c) (cycle_reduces k h)
 
-named_faces : (m : List (ℕ × ℕ)) (flips : List Flip) → IsMap m → AllByRecursion OfFaces flips → takes_flips m flips ≡ true → AllByRecursion OfFaces (named_flips m flips)
-named_faces m [] i h t = tt
-named_faces m (f ∷ fs) i h t = ((sizes_are_kept m f i h.0 (first_so (takes_flip m f) (takes_flips m fs) t)).faces, named_faces m fs i h.1 (second_so (takes_flip m f) (takes_flips m fs) t))
-
 -- what flips lead to a boundary of is so on its places
 placed_looks : (k : Space) (room : ℕ) → IsComplex k → Reaches k → LooksLikeSphere (placed k room)
 placed_looks k room c h =
@@ -67,7 +62,7 @@ placed_looks k room c h =
     let g : Ground k m = ground k room c in
     let a : RenamesAll (map_back m) k h.flips = record { complex = g.there; faces = h.faces; taken = reducing_flips_taken (map_back m) k h.certificate.end h.flips g.there.taken h.faces h.many h.certificate.replays } in
     let P : List (ℕ × ℕ) → Type 0 = λ ps. SphereCert (renamed k ps) (named_flips (map_back m) h.flips) in
-    reaching_looks (placed k room) (named_flips (map_back m) h.flips) g.here.complex (named_faces (map_back m) h.flips g.there.is_map h.faces a.taken) (subst P g.places ((certificate_is_kept (map_back m) k h.flips a).0 h.certificate))
+    reaching_looks (placed k room) (named_flips (map_back m) h.flips) g.here.complex (named_are_faces (map_back m) h.flips g.there.is_map h.faces a.taken) (subst P g.places ((certificate_is_kept (map_back m) k h.flips a).0 h.certificate))
 
 pub cycle_is_decided : CycleIsDecided
 cycle_is_decided k h =

@@ -69,12 +69,12 @@ short_set_off : (f : List ℕ) → AllByRecursion (λ n. allows (UpTo 65000) n �
 short_set_off [] h = omega arith
 short_set_off (n ∷ ns) h = omega (arith, short_number n (label_low n h.0), short_set_off ns h.1, length-append (set_off n) (flat_map set_off ns))
 
-short_flip : (f : Flip) → HasSides (UpTo 65000) f → length (flip_line_text f) ≤ 86
+pub short_flip : (f : Flip) → HasSides (UpTo 65000) f → length (flip_line_text f) ≤ 86
 unfolding flip_text
 short_flip f h =
     omega (arith, short_spaced f.a h.a.allowed, short_set_off f.b h.b.allowed, h.a.high, h.b.high, length-append (flat_map spaced f.a) (124 ∷ flat_map set_off f.b), length-append (flip_text f) (10 ∷ []))
 
-short_flips : (flips : List Flip) → AllByRecursion (HasSides (UpTo 65000)) flips → length (flat_map flip_line_text flips) ≤ 86 * length flips
+pub short_flips : (flips : List Flip) → AllByRecursion (HasSides (UpTo 65000)) flips → length (flat_map flip_line_text flips) ≤ 86 * length flips
 short_flips [] h = omega arith
 short_flips (f ∷ fs) h = omega (arith, short_flip f h.0, short_flips fs h.1, length-append (flip_line_text f) (flat_map flip_line_text fs))
 

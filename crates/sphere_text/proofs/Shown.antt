@@ -1,11 +1,7 @@
 -- What a descent on the places of a complex shows of it.
-use Rattle.std.proofs.Common.{◌≡◌, ℕ, ◌+◌, ◌≤◌, true, List, [], ◌∷◌, length, subst, arith}
+use Rattle.std.proofs.Common.{◌≡◌, ℕ, ◌≤◌, true, List, [], ◌∷◌, length, subst, arith}
 use Rattle.std.proofs.lemmas.List.{length-map}
 use Rattle.std.specs.List.{AllByRecursion}
-use Rattle.std.specs.Ordering.{match_ordering}
-use Rattle.std.specs.declared.cmp.Ordering.TheVariants.{Less, Equal, Greater}
-use Rattle.complex_core.specs.Labels.{face_cmp}
-use Rattle.complex_core.specs.Rising.{put, rising}
 use Rattle.complex_core.specs.Maps.{turned, names_of, face_image, face_images}
 use Rattle.complex_core.specs.Spaces.{Space}
 use Rattle.flip_rules.specs.Flips.{flipped}
@@ -22,27 +18,14 @@ use Rattle.descent_laws.proofs.Reducing.{two_at_least}
 use Rattle.sphere_text.specs.Claims.{placed, named, DescentIsShown}
 use Rattle.sphere_text.proofs.Grounds.{Ground, ground}
 use Rattle.sphere_text.proofs.Fits.{names_are_small, flips_fit}
+use Rattle.complex_core.proofs.SetLists.{rising_length}
 
 -- each flip of a descent has a B of two labels or more
 pub all_reduce : (k end : Space) (flips : List Flip) → IsDescent k flips end → AllByRecursion HasPositiveIndex flips
 all_reduce k end [] d = tt
 all_reduce k end (f ∷ fs) d = (two_at_least k f d.0.reduces, all_reduce (flipped k f.a f.b) end fs d.1)
 
--- sorting makes no sets
-put_length : (f : List ℕ) (fs : List (List ℕ)) → length (put face_cmp f fs) ≤ length fs + 1
-put_length f [] = omega arith
-put_length f (g ∷ gs) =
-    elim (face_cmp f g) as (λ o. length (match_ordering o (f ∷ g ∷ gs) (g ∷ gs) (g ∷ put face_cmp f gs)) ≤ length (g ∷ gs) + 1) [
-      | Less ↦ omega arith
-      | Equal ↦ omega arith
-      | Greater ↦ omega (arith, put_length f gs)
-    ]
-
-rising_length : (fs : List (List ℕ)) → length (rising face_cmp fs) ≤ length fs
-rising_length [] = omega arith
-rising_length (f ∷ fs) = omega (arith, put_length f (rising face_cmp fs), rising_length fs)
-
-placed_length : (k : Space) (room : ℕ) → length (placed k room).facets ≤ length k.facets
+pub placed_length : (k : Space) (room : ℕ) → length (placed k room).facets ≤ length k.facets
 placed_length k room =
     let m : List (ℕ × ℕ) = turned (names_of k.facets room) in
     omega (arith, rising_length (face_images m k.facets), length-map k.facets (face_image m))

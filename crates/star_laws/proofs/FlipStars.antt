@@ -1,5 +1,5 @@
 -- One flip, seen on stars.
-use Rattle.std.proofs.Common.{◌≡◌, ℕ, Bool, true, false, not, cond, filter, nat_eq, if◌then◌else◌, ◌||◌, ◌&&◌, List, [], ◌∷◌, ◌++◌, length, Result, Ok, Err, sym, ◌∙◌, ap, refl}
+use Rattle.std.proofs.Common.{◌≡◌, ℕ, Bool, true, false, not, cond, filter, nat_eq, ◌||◌, ◌&&◌, List, [], ◌∷◌, ◌++◌, length, Err, sym, ◌∙◌, ap, refl}
 use Rattle.std.specs.List.{list_any}
 use Rattle.std.specs.List.Sorted.{IsStrictlySortedBy}
 use Rattle.std.specs.Cmp.Derive.{both_true}
@@ -11,17 +11,17 @@ use Rattle.complex_core.specs.Spaces.{Space, over, beside, is_held}
 use Rattle.complex_core.proofs.Sets.{sorted_rising}
 use Rattle.complex_core.proofs.Laws.{has-union, has-without, holds_has, found, or_left, nat_eq_same, listed, same_sets_is, listed-append, listed-filter, listed-rising, same_lists}
 use Rattle.flip_rules.specs.Flips.{sides, has_shape, same_sets, why, flipped, Legal}
-use Rattle.flip_rules.specs.declared.flip.Illegal.{Illegal}
-use Rattle.flip_rules.specs.declared.flip.Illegal.TheVariants.{Shape, NotAFace, LinkDiffers, BIsFace}
+use Rattle.flip_rules.specs.declared.flip.Illegal.TheVariants.{Shape}
 use Rattle.flip_rules.proofs.Links.{side, listed-sides, listed-flipped}
-use Rattle.flip_rules.proofs.Legal.{legal}
+use Rattle.flip_rules.proofs.Legal.{legal, verdict}
 use Rattle.star_laws.specs.Stars.{star, Rises, AlikeOn, star_after}
 use Rattle.star_laws.specs.Laws.{FlipKeepsStars, WhySeenOnStars, StarAfterFlip, FlipOnAlike}
+use Rattle.std.proofs.lemmas.Bool.{or_from, and_left}
 
 -- ---- what contains A lies in the star of each label of A
 
 -- a test that goes through another one
-filter_within : (p q : List ℕ → Bool) (fs : List (List ℕ)) → ((f : List ℕ) → p f ≡ true → q f ≡ true) → filter p fs ≡ filter p (filter q fs)
+pub filter_within : (p q : List ℕ → Bool) (fs : List (List ℕ)) → ((f : List ℕ) → p f ≡ true → q f ≡ true) → filter p fs ≡ filter p (filter q fs)
 filter_within p q [] h = refl
 filter_within p q (f ∷ fs) h =
     elim (q f) as (λ c. q f ≡ c → cond (p f) (f ∷ filter p fs) (filter p fs) ≡ filter p (cond c (f ∷ filter q fs) (filter q fs))) [
@@ -60,16 +60,12 @@ held_seen fs gs a x t e =
 
 -- ---- legality
 
--- the first rule that is broken, by the four tests
-abbrev judged : Bool → Bool → Bool → Bool → Result (Unit {0}) Illegal
-judged shape face link free = (if shape then (if face then (if link then (if free then Err BIsFace else Ok tt) else Err LinkDiffers) else Err NotAFace) else Err Shape)
-
 pub why_seen : WhySeenOnStars
 why_seen k l a b x y d t s e g =
-    ap (λ n. judged (has_shape n a b) (is_held k.facets a) (same_sets (over k.facets a) (rising face_cmp (sides a b))) (is_held k.facets b)) d
-    ∙ ap (λ c. judged (has_shape l.dim a b) c (same_sets (over k.facets a) (rising face_cmp (sides a b))) (is_held k.facets b)) (held_seen k.facets l.facets a x t e)
-    ∙ ap (λ fs. judged (has_shape l.dim a b) (is_held l.facets a) (same_sets fs (rising face_cmp (sides a b))) (is_held k.facets b)) (over_seen k.facets l.facets a x t e)
-    ∙ ap (λ c. judged (has_shape l.dim a b) (is_held l.facets a) (same_sets (over l.facets a) (rising face_cmp (sides a b))) c) (held_seen k.facets l.facets b y s g)
+    ap (λ n. verdict (has_shape n a b) (is_held k.facets a) (same_sets (over k.facets a) (rising face_cmp (sides a b))) (is_held k.facets b)) d
+    ∙ ap (λ c. verdict (has_shape l.dim a b) c (same_sets (over k.facets a) (rising face_cmp (sides a b))) (is_held k.facets b)) (held_seen k.facets l.facets a x t e)
+    ∙ ap (λ fs. verdict (has_shape l.dim a b) (is_held l.facets a) (same_sets fs (rising face_cmp (sides a b))) (is_held k.facets b)) (over_seen k.facets l.facets a x t e)
+    ∙ ap (λ c. verdict (has_shape l.dim a b) (is_held l.facets a) (same_sets (over l.facets a) (rising face_cmp (sides a b))) c) (held_seen k.facets l.facets b y s g)
 
 -- ---- the star after
 
@@ -112,18 +108,12 @@ star_flipped k a b p = same_lists (star (flipped k a b).facets p) (star_after (s
 
 -- ---- the stars of other labels
 
-or_none : (p q : Bool) → p ≡ false → q ≡ false → (p || q) ≡ false
-or_none p q h g = ap (λ c. c || q) h ∙ g
-
-and_none : (p q : Bool) → p ≡ false → (p && q) ≡ false
-and_none p q h = ap (λ c. c && q) h
-
 -- a side has no other labels
 lacks_other : (a b : List ℕ) (p : ℕ) (f : List ℕ) → has a p ≡ false → has b p ≡ false → listed (sides a b) f ≡ true → holds f (p ∷ []) ≡ false
 lacks_other a b p f na nb t =
     let r : (x : ℕ) × (has b x ≡ true) × (pointwise nat_eq (side a b x) f ≡ true) = found (λ x. pointwise nat_eq (side a b x) f) b (sym (listed-sides a b b f) ∙ t) in
     let e : side a b r.0 ≡ f = same_sets_is (side a b r.0) f r.2 in
-    and_none (has f p) true (ap (λ g. has g p) (sym e) ∙ has-union a (without b r.0) p ∙ or_none (has a p) (has (without b r.0) p) na (has-without b r.0 p ∙ and_none (has b p) (not (nat_eq p r.0)) nb))
+    and_left (has f p) true (ap (λ g. has g p) (sym e) ∙ has-union a (without b r.0) p ∙ or_from (has a p) (has (without b r.0) p) na (has-without b r.0 p ∙ and_left (has b p) (not (nat_eq p r.0)) nb))
 
 other_row : (p q r t : Bool) → (r ≡ true → t ≡ false) → ((p && q) ≡ true → t ≡ false) → (((p && not q) || r) && t) ≡ (p && t)
 other_row true true r true h g = let e : true ≡ false = g refl in cc
@@ -160,7 +150,7 @@ empty_first : (k : Space) (b : List ℕ) → why k [] b ≡ Err Shape
 empty_first k b = refl
 
 empty_second : (k : Space) (a : List ℕ) → why k a [] ≡ Err Shape
-empty_second k a = ap (λ c. judged c (is_held k.facets a) (same_sets (over k.facets a) (rising face_cmp (sides a []))) (is_held k.facets [])) (no_shape k.dim a)
+empty_second k a = ap (λ c. verdict c (is_held k.facets a) (same_sets (over k.facets a) (rising face_cmp (sides a []))) (is_held k.facets [])) (no_shape k.dim a)
 
 pub why_alike : (held : ℕ → Bool) (k l : Space) (a b : List ℕ) → AlikeOn held k l → ((p : ℕ) → has a p ≡ true → held p ≡ true) → ((p : ℕ) → has b p ≡ true → held p ≡ true) → why k a b ≡ why l a b
 why_alike held k l [] b h ha hb = empty_first k b ∙ sym (empty_first l b)

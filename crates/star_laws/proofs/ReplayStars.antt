@@ -1,5 +1,5 @@
 -- Flips one after another, seen on stars.
-use Rattle.std.proofs.Common.{◌≡◌, ℕ, Bool, true, false, ◌||◌, [], ◌∷◌, Result, Ok, Err, Option, Some, sym, ◌∙◌, ap, refl, subst}
+use Rattle.std.proofs.Common.{◌≡◌, ℕ, [], ◌∷◌, Result, Ok, Err, Option, Some, sym, ◌∙◌, ap, subst}
 use Rattle.complex_core.specs.Labels.{has}
 use Rattle.complex_core.specs.Spaces.{Space}
 use Rattle.complex_core.proofs.Laws.{or_left, or_right}
@@ -10,14 +10,7 @@ use Rattle.flip_rules.proofs.Replays.{first_flip}
 use Rattle.star_laws.specs.Stars.{star, flips_touch, EndAlikeOn, star_after_all}
 use Rattle.star_laws.specs.Laws.{ReplayOnAlike, ReplayKeepsStars, StarAfterReplay, FlipSeenOnStars}
 use Rattle.star_laws.proofs.FlipStars.{rises_flipped, star_flipped, other_star, flip_alike}
-
-neither_left : (p q : Bool) → (p || q) ≡ false → p ≡ false
-neither_left true q h = h
-neither_left false q h = refl
-
-neither_right : (p q : Bool) → (p || q) ≡ false → q ≡ false
-neither_right true q h = let e : true ≡ false = h in cc
-neither_right false q h = h
+use Rattle.complex_core.proofs.Booleans.{left_off, right_off}
 
 pub replay_alike : ReplayOnAlike
 replay_alike held k l [] h hold = h
@@ -39,8 +32,8 @@ others_replay k m [] p s e n = same_star k m p e
     same_star k m p e = let g : k ≡ m = cc in ap (λ (n : Space). star n.facets p) (sym g)
 others_replay k m (f ∷ fs) p s e n =
     let r : (why k f.a f.b ≡ Ok tt) × (replay (flipped k f.a f.b) fs ≡ Some m) = first_flip k m f fs e in
-    others_replay (flipped k f.a f.b) m fs p (rises_flipped k f.a f.b) r.1 (neither_right (flip_touches p f) (flips_touch p fs) n)
-    ∙ other_star k f.a f.b p s r.0 (neither_left (has f.a p) (has f.b p) (neither_left (flip_touches p f) (flips_touch p fs) n)) (neither_right (has f.a p) (has f.b p) (neither_left (flip_touches p f) (flips_touch p fs) n))
+    others_replay (flipped k f.a f.b) m fs p (rises_flipped k f.a f.b) r.1 (right_off (flip_touches p f) (flips_touch p fs) n)
+    ∙ other_star k f.a f.b p s r.0 (left_off (has f.a p) (has f.b p) (left_off (flip_touches p f) (flips_touch p fs) n)) (right_off (has f.a p) (has f.b p) (left_off (flip_touches p f) (flips_touch p fs) n))
 
 pub star_replayed : StarAfterReplay
 star_replayed k m [] p e = same_star k m p e

@@ -1,20 +1,19 @@
 -- A facet put behind the rows of the stars of its labels.
-use Rattle.std.proofs.Common.{◌≡◌, ◌≢◌, ℕ, zero, suc, ◌+◌, ◌-◌, ◌<◌, ◌≤◌, Bool, true, false, cond, nat_eq, if◌then◌else◌, ◌||◌, List, [], ◌∷◌, ◌++◌, length, take, get_or, set, sym, ◌∙◌, ap, refl, subst, arith, eq-eqb}
+use Rattle.std.proofs.Common.{◌≡◌, ◌≢◌, ℕ, zero, suc, ◌+◌, ◌-◌, ◌<◌, ◌≤◌, true, false, cond, nat_eq, if◌then◌else◌, ◌||◌, List, [], ◌∷◌, length, take, get_or, set, sym, ◌∙◌, ap, refl, subst, arith, eq-eqb}
 use Rattle.std.specs.List.Sorted.{IsStrictlySortedBy}
 use Rattle.std.specs.Ordering.{nat_cmp}
 use Rattle.std.specs.declared.cmp.Ordering.TheVariants.{Less}
-use Rattle.std.proofs.lemmas.Bool.{true≢false}
+use Rattle.std.proofs.lemmas.Bool.{true≢false, ne_eqb}
 use Rattle.std.proofs.lemmas.List.{same_lists, take_more, get_or-map, length-map, length-set, get_or-set_same, get_or-set_other, get_or_default}
 use Rattle.complex_core.specs.Labels.{IsFace, has}
 use Rattle.complex_core.proofs.Sets.{above_head, above_tail}
 use Rattle.complex_core.proofs.Faces.{less_cmp}
-use Rattle.complex_core.proofs.Laws.{nat_eq_is, nat_eq_same, or_left, or_right}
+use Rattle.complex_core.proofs.Laws.{nat_eq_is, nat_eq_same, or_right}
 use Rattle.stars.specs.StarViews.{VertexStar, IsStar}
 use Rattle.stars.specs.Building.{with_row, with_rows, CanAdd}
 use Rattle.stars.proofs.Finding.{each_at}
-
-nat_eq_not : (x y : ℕ) → x ≢ y → nat_eq x y ≡ false
-nat_eq_not x y n = elim (nat_eq x y) as (λ b. nat_eq x y ≡ b → b ≡ false) [ true ↦ λ e. absurd (n (nat_eq_is x y e)) | false ↦ λ _. refl ] refl
+use Rattle.complex_core.proofs.Booleans.{or_none}
+use Rattle.complex_core.proofs.Members.{has_place, has_snoc}
 
 -- a label of a rising list isn't among those before it
 pub not_before : (xs : List ℕ) (j : ℕ) → IsStrictlySortedBy nat_cmp xs → j < length xs → has (take j xs) (get_or xs j 0) ≡ false
@@ -23,13 +22,8 @@ not_before (y ∷ ys) zero s l = refl
 not_before (y ∷ ys) (suc j) s l =
     let inside : j < length ys = omega (arith, l) in
     let below : y < get_or ys j 0 = less_cmp y (get_or ys j 0) (each_at (λ z. nat_cmp y z ≡ Less) ys j 0 (above_head nat_cmp y ys s) inside) in
-    ap (λ b. b || has (take j ys) (get_or ys j 0)) (nat_eq_not y (get_or ys j 0) (λ e. omega (arith, below, e)))
+    ap (λ b. b || has (take j ys) (get_or ys j 0)) (ne_eqb y (get_or ys j 0) (λ e. omega (arith, below, e)))
     ∙ not_before ys j (above_tail nat_cmp y ys s) inside
-
-has_item : (xs : List ℕ) (j : ℕ) → j < length xs → has xs (get_or xs j 0) ≡ true
-has_item [] j l = absurd (omega (arith, l))
-has_item (y ∷ ys) zero l = or_left (nat_eq y y) (has ys y) (nat_eq_same y)
-has_item (y ∷ ys) (suc j) l = or_right (nat_eq y (get_or ys j 0)) (has ys (get_or ys j 0)) (has_item ys j (omega (arith, l)))
 
 positive : (low : ℕ) (xs : List ℕ) (j : ℕ) → IsStrictlySortedBy nat_cmp (low ∷ xs) → j < length xs → low < get_or xs j 0
 positive low xs j s l = less_cmp low (get_or xs j 0) (each_at (λ z. nat_cmp low z ≡ Less) xs j 0 (above_head nat_cmp low xs s) l)
@@ -46,7 +40,7 @@ at_label old f labels j can face e l =
     let P : List ℕ → Type 0 = λ xs. AtLabel old f xs j in
     let inside : j < length f = omega (arith, l, ap length e) in
     let low : 0 < get_or f j 0 = positive 0 f j face.rising inside in
-    let named : has f (get_or f j 0) ≡ true = has_item f j inside in
+    let named : has f (get_or f j 0) ≡ true = has_place f j inside in
     subst P (sym e) (record {
       low = omega (arith, low);
       high = omega (arith, low, can.within (get_or f j 0) named);
@@ -76,18 +70,6 @@ row_fits old now f labels j s can at e is =
     let P : VertexStar → Type 0 = λ t. IsStar (with_row f t) in
     subst P (sym (star_at_label old now f labels j s can at e is)) (can.fits (x - 1) s at.high (ap (has f) g ∙ at.named))
 
-or_none : (b : Bool) → (b || false) ≡ b
-or_none true = refl
-or_none false = refl
-
-has_push : (xs : List ℕ) (x y : ℕ) → has (xs ++ x ∷ []) y ≡ (has xs y || nat_eq x y)
-has_push [] x y = or_none (nat_eq x y)
-has_push (z ∷ xs) x y = ap (λ b. nat_eq z y || b) (has_push xs x y) ∙ assoc (nat_eq z y) (has xs y) (nat_eq x y)
-  where
-    assoc : (a b c : Bool) → (a || (b || c)) ≡ ((a || b) || c)
-    assoc true b c = refl
-    assoc false b c = refl
-
 -- one more label
 pub added_next : (old now : List VertexStar) (f labels : List ℕ) (j : ℕ) (s t : VertexStar) → CanAdd old f → AtLabel old f labels j → j < length labels → now ≡ with_rows (take j labels) f old → s ≡ get_or now (get_or labels j 0 - 1) s → t ≡ with_row f s → set now (get_or labels j 0 - 1) t ≡ with_rows (take (j + 1) labels) f old
 added_next old now f labels j s t can at l e is et = same_lists (set now (get_or labels j 0 - 1) t) (with_rows (take (j + 1) labels) f old) long each
@@ -99,7 +81,7 @@ added_next old now f labels j s t can at l e is et = same_lists (set now (get_or
     long = length-set now (get_or labels j 0 - 1) t ∙ long_now ∙ sym (length-with (take (j + 1) labels) f old)
 
     seen : (y : ℕ) → has (take (j + 1) labels) y ≡ (has (take j labels) y || nat_eq (get_or labels j 0) y)
-    seen y = ap (λ xs. has xs y) (take_more labels j 0 l) ∙ has_push (take j labels) (get_or labels j 0) y
+    seen y = ap (λ xs. has xs y) (take_more labels j 0 l) ∙ has_snoc (take j labels) (get_or labels j 0) y
 
     here : (d : VertexStar) → get_or (set now (get_or labels j 0 - 1) t) (get_or labels j 0 - 1) d ≡ get_or (with_rows (take (j + 1) labels) f old) (get_or labels j 0 - 1) d
     here d =
@@ -119,7 +101,7 @@ added_next old now f labels j s t can at l e is et = same_lists (set now (get_or
         get_or-set_other now (get_or labels j 0 - 1) k t d ne
         ∙ ap (λ ss. get_or ss k d) e
         ∙ with_at (take j labels) f old k d lk
-        ∙ ap (λ b. cond b (with_row f r) r) (sym (seen r.vertex ∙ ap (λ b. has (take j labels) r.vertex || b) (nat_eq_not (get_or labels j 0) r.vertex apart) ∙ or_none (has (take j labels) r.vertex)))
+        ∙ ap (λ b. cond b (with_row f r) r) (sym (seen r.vertex ∙ ap (λ b. has (take j labels) r.vertex || b) (ne_eqb (get_or labels j 0) r.vertex apart) ∙ or_none (has (take j labels) r.vertex)))
         ∙ sym (with_at (take (j + 1) labels) f old k d lk)
 
     each : (k : ℕ) (d : VertexStar) → k < length (set now (get_or labels j 0 - 1) t) → get_or (set now (get_or labels j 0 - 1) t) k d ≡ get_or (with_rows (take (j + 1) labels) f old) k d

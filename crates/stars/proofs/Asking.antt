@@ -10,12 +10,10 @@ use Rattle.complex_core.proofs.Laws.{listed, passes_listed, each_listed, each_ha
 use Rattle.flip_rules.specs.declared.flip.Flip.{Flip}
 use Rattle.stars.specs.StarViews.{VertexStar, StarList, UsesUpTo, vertices, places_in, HasLabels, OnPlaces}
 use Rattle.stars.proofs.Mapping.{uses_of, uses_from, has_bound}
+use Rattle.std.proofs.lemmas.Bool.{le-leb}
 
 le_is : (x n : ℕ) → nat_le x n ≡ true → x ≤ n
 le_is x n h = grind (arith, nat_tests)
-
-is_le : (x n : ℕ) → x ≤ n → nat_le x n ≡ true
-is_le x n h = grind (arith, nat_tests)
 
 -- no label above n
 abbrev up_to : ℕ → List ℕ → Bool
@@ -27,12 +25,12 @@ each_up_to n (x ∷ xs) h = (le_is x n (first_so (nat_le x n) (up_to n xs) h), e
 
 up_to_each : (n : ℕ) (xs : List ℕ) → AllByRecursion (λ x. x ≤ n) xs → up_to n xs ≡ true
 up_to_each n [] h = refl
-up_to_each n (x ∷ xs) h = both_true (is_le x n h.0) (up_to_each n xs h.1)
+up_to_each n (x ∷ xs) h = both_true (le-leb x n h.0) (up_to_each n xs h.1)
 
 pub uses_told : (k : Space) (n : ℕ) (facets : List (List ℕ)) (t : Bool) → facets ≡ k.facets → t ≡ list_all (λ f. list_all (λ x. nat_le x n) f) facets → (IsTrue t → UsesUpTo k n) × (UsesUpTo k n → IsTrue t)
 uses_told k n facets t e r = (
   λ h. uses_from k n (λ f p l i. has_bound n f p (each_up_to n f (passes_listed (up_to n) facets f (sym r ∙ h) (ap (λ fs. listed fs f) e ∙ l))) i),
-  λ h. r ∙ each_listed (up_to n) facets (λ f l. each_has (λ x. nat_le x n) f (λ p i. is_le p n (uses_of k n f p h (ap (λ fs. listed fs f) (sym e) ∙ l) i))),
+  λ h. r ∙ each_listed (up_to n) facets (λ f l. each_has (λ x. nat_le x n) f (λ p i. le-leb p n (uses_of k n f p h (ap (λ fs. listed fs f) (sym e) ∙ l) i))),
 )
 
 -- the two sides of a flip, one after the other
@@ -52,7 +50,7 @@ places_first m f n s e es h = (
 )
 
 -- a star of a label, among the stars and among the vertices
-star_there : (near : List VertexStar) (x : ℕ) → list_any (λ s. nat_eq s.vertex x) near ≡ has (vertices near) x
+pub star_there : (near : List VertexStar) (x : ℕ) → list_any (λ s. nat_eq s.vertex x) near ≡ has (vertices near) x
 star_there [] x = refl
 star_there (s ∷ near) x = ap (λ b. nat_eq s.vertex x || b) (star_there near x)
 

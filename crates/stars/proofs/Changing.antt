@@ -1,18 +1,18 @@
 -- The stars of some labels changed one after another, each emptied until those after it are changed.
-use Rattle.std.proofs.Common.{◌≡◌, ◌≢◌, ℕ, ◌<◌, Bool, true, false, cond, not, nat_eq, if◌then◌else◌, ◌||◌, ◌&&◌, List, [], ◌∷◌, ◌++◌, length, map, get_or, set, sym, ◌∙◌, ap, refl, subst, arith, eq-eqb}
-use Rattle.std.specs.List.{filter, AllByRecursion}
+use Rattle.std.proofs.Common.{◌≡◌, ◌≢◌, ℕ, ◌<◌, true, false, cond, not, nat_eq, if◌then◌else◌, ◌||◌, ◌&&◌, List, [], ◌∷◌, ◌++◌, length, map, get_or, set, sym, ◌∙◌, ap, refl, subst, arith, eq-eqb}
+use Rattle.std.specs.List.{AllByRecursion}
 use Rattle.std.specs.List.Sorted.{IsStrictlySortedBy}
 use Rattle.std.specs.Ordering.{nat_cmp}
 use Rattle.std.specs.Cmp.{first_so, second_so}
 use Rattle.std.specs.Cmp.Lexicographic.{nat_list_cmp_total}
 use Rattle.std.proofs.Math.Seq.{map-set_same}
-use Rattle.std.proofs.lemmas.Bool.{true≢false}
+use Rattle.std.proofs.lemmas.Bool.{true≢false, ne_eqb}
 use Rattle.std.proofs.lemmas.List.{same_lists, get_or-map, length-map, length-set, get_or-set_same, get_or-set_other, get_or_default, set-set, set-get_or}
 use Rattle.complex_core.specs.Labels.{IsRising, has, holds, face_cmp}
 use Rattle.complex_core.specs.Rising.{rising}
 use Rattle.complex_core.specs.Spaces.{IsFacet, staying, is_facet}
 use Rattle.complex_core.proofs.Sets.{above_head, above_tail, each_rising, sorted_rising}
-use Rattle.complex_core.proofs.Sorting.{each_append}
+use Rattle.complex_core.proofs.Sorting.{each_append, each_filter}
 use Rattle.complex_core.proofs.Laws.{above_not, nat_eq_is, or_left}
 use Rattle.star_laws.specs.Stars.{star}
 use Rattle.stars.specs.StarViews.{VertexStar, IsStar, vertices}
@@ -77,10 +77,6 @@ still_lent near last i x s v w others out more l ex ev n el ew =
     ∙ ap (changed_if others out more) same
     ∙ ap (λ b. cond b (star_changed out more v) v) (ap (has others) vx ∙ n)
 
-pub each_filter : {K : Type 0} (P : K → Type 0) (p : K → Bool) (xs : List K) → AllByRecursion P xs → AllByRecursion P (filter p xs)
-each_filter P p [] h = tt
-each_filter P p (x ∷ xs) h = elim (p x) as (λ b. AllByRecursion P (cond b (x ∷ filter p xs) (filter p xs))) [ true ↦ (h.0, each_filter P p xs h.1) | false ↦ each_filter P p xs h.1 ]
-
 pub star_held : (fs : List (List ℕ)) (x : ℕ) → AllByRecursion (λ f. has f x ≡ true) (star fs x)
 star_held [] x = tt
 star_held (f ∷ fs) x =
@@ -102,9 +98,6 @@ changed_is_star s v w x rows out more h ex ev ew pure er =
       pure = each_rising face_cmp (IsFacet s.dim) (staying s.rows out ++ star more s.vertex) (each_append (IsFacet s.dim) (staying s.rows out) (star more s.vertex) (each_filter (IsFacet s.dim) (λ f. not (is_facet out f)) s.rows h.pure) (each_filter (IsFacet s.dim) (λ f. holds f (s.vertex ∷ [])) more pure));
       held = each_rising face_cmp (λ f. has f s.vertex ≡ true) (staying s.rows out ++ star more s.vertex) (each_append (λ f. has f s.vertex ≡ true) (staying s.rows out) (star more s.vertex) (each_filter (λ f. has f s.vertex ≡ true) (λ f. not (is_facet out f)) s.rows h.held) (star_held more s.vertex));
     })
-
-nat_eq_not : (x y : ℕ) → x ≢ y → nat_eq x y ≡ false
-nat_eq_not x y n = elim (nat_eq x y) as (λ b. nat_eq x y ≡ b → b ≡ false) [ true ↦ λ e. absurd (n (nat_eq_is x y e)) | false ↦ λ _. refl ] refl
 
 -- the first label's star is put back changed, after the others
 pub changed_step : (near last : List VertexStar) (i x : ℕ) (s v w u : VertexStar) (labels others : List ℕ) (rows out more : List (List ℕ)) → CanChange near labels more → labels ≡ x ∷ others → i < length near → s ≡ get_or near i s → s.vertex ≡ x → v ≡ emptied s → last ≡ stars_changed (set near i v) others out more → w ≡ get_or last i w → rows ≡ rising face_cmp (staying s.rows out ++ star more x) → u ≡ record w { rows = rows } → set last i u ≡ stars_changed near labels out more
@@ -139,7 +132,7 @@ changed_step near last i x s v w u labels others rows out more can el l es ex ev
         ∙ ap (λ xs. get_or xs k d) ea
         ∙ changed_at (set near i v) others out more k d (omega (arith, lk, length-set near i v))
         ∙ ap (changed_if others out more) (get_or-set_other near i k v d ne)
-        ∙ ap (λ b. cond b (star_changed out more t) t) (sym (ap (λ xs. has xs t.vertex) el ∙ ap (λ b. b || has others t.vertex) (nat_eq_not x t.vertex apart)))
+        ∙ ap (λ b. cond b (star_changed out more t) t) (sym (ap (λ xs. has xs t.vertex) el ∙ ap (λ b. b || has others t.vertex) (ne_eqb x t.vertex apart)))
         ∙ sym (changed_at near labels out more k d lk)
 
     each : (k : ℕ) (d : VertexStar) → k < length (set last i u) → get_or (set last i u) k d ≡ get_or (stars_changed near labels out more) k d

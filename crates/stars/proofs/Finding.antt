@@ -1,25 +1,16 @@
 -- Stars that rise in their vertices, found by a vertex.
-use Rattle.std.proofs.Common.{◌≡◌, ℕ, zero, suc, ◌<◌, ◌≤◌, true, false, nat_eq, nat_lt, ◌||◌, List, [], ◌∷◌, length, get_or, sym, ◌∙◌, refl, subst, arith, inl, inr}
+use Rattle.std.proofs.Common.{◌≡◌, ℕ, zero, suc, ◌<◌, ◌≤◌, true, false, nat_lt, List, [], ◌∷◌, length, get_or, sym, ◌∙◌, subst, arith, inl, inr}
 use Rattle.std.specs.List.{AllByRecursion}
 use Rattle.std.specs.List.Sorted.{IsStrictlySortedBy, IsPartitionedBy, IsPartitionPoint}
 use Rattle.std.specs.Ordering.{nat_cmp}
-use Rattle.std.proofs.lemmas.Bool.{cases_lt, true≢false}
+use Rattle.std.proofs.lemmas.Bool.{cases_lt, ltb-true, ltb-false}
 use Rattle.std.proofs.lemmas.Bool.Decides.{nat_tests}
 use Rattle.std.proofs.lemmas.List.{get_or-map, length-map}
 use Rattle.std.proofs.lemmas.Map.Keys.{below_from_sorted}
 use Rattle.complex_core.specs.Labels.{IsRising, has}
-use Rattle.complex_core.proofs.Laws.{nat_eq_is}
 use Rattle.complex_core.proofs.Sets.{above_tail}
 use Rattle.stars.specs.StarViews.{VertexStar, vertices}
-
--- a label that is there has a place
-pub has_at : (xs : List ℕ) (x : ℕ) → has xs x ≡ true → (j : ℕ) × (j < length xs) × (get_or xs j 0 ≡ x)
-has_at [] x t = absurd (true≢false (sym t))
-has_at (y ∷ ys) x t =
-    elim (nat_eq y x) as (λ b. nat_eq y x ≡ b → (b || has ys x) ≡ true → (j : ℕ) × (j < length (y ∷ ys)) × (get_or (y ∷ ys) j 0 ≡ x)) [
-      | true ↦ λ e _. (0, omega arith, nat_eq_is y x e)
-      | false ↦ λ _ r. let s : (j : ℕ) × (j < length ys) × (get_or ys j 0 ≡ x) = has_at ys x r in (suc s.0, omega (arith, s.1), s.2)
-    ] refl t
+use Rattle.complex_core.proofs.Members.{place_of_label}
 
 none_star : VertexStar
 none_star = record { vertex = 0; dim = 0; rows = [] }
@@ -55,12 +46,6 @@ one_place near i j s r hi hj e = elim (cases_lt i j) [
 lt_lower : (a b x : ℕ) → a ≤ b → nat_lt b x ≡ true → nat_lt a x ≡ true
 lt_lower a b x h t = grind (arith, nat_tests)
 
-lt_is : (a x : ℕ) → nat_lt a x ≡ true → a < x
-lt_is a x t = grind (arith, nat_tests)
-
-lt_not : (a x : ℕ) → nat_lt a x ≡ false → x ≤ a
-lt_not a x t = grind (arith, nat_tests)
-
 pub parted : (near : List VertexStar) (x : ℕ) → IsRising (vertices near) → IsPartitionedBy (λ s. nat_lt s.vertex x) near
 parted near x r = λ i j d le lt h. elim (cases_lt i j) [
   | inl below ↦ let b : (get_or near i d).vertex < (get_or near j d).vertex = vertex_below near i j d r below lt in lt_lower (get_or near i d).vertex (get_or near j d).vertex x (omega (arith, b)) h
@@ -74,16 +59,16 @@ pub record FoundAt (near : List VertexStar) (x at : ℕ) : Type 0 where
 
 pub found_at : (near : List VertexStar) (x at : ℕ) → IsRising (vertices near) → has (vertices near) x ≡ true → at ≤ length near → IsPartitionPoint (λ s. nat_lt s.vertex x ≡ true) (λ s. nat_lt s.vertex x ≡ false) near at → FoundAt near x at
 found_at near x at r t le place =
-    let h : (j : ℕ) × (j < length (vertices near)) × (get_or (vertices near) j 0 ≡ x) = has_at (vertices near) x t in
+    let h : (j : ℕ) × (j < length (vertices near)) × (get_or (vertices near) j 0 ≡ x) = place_of_label (vertices near) x t in
     let n : length (vertices near) ≡ length near = length-vertices near in
     let inside : h.0 < length near = omega (arith, h.1, n) in
     let v : (s : VertexStar) → (get_or near h.0 s).vertex ≡ x = λ s. sym (vertex_at near h.0 s inside) ∙ h.2 in
     let e : h.0 ≡ at = elim (cases_lt h.0 at) [
-      | inl l ↦ let b : (get_or near h.0 none_star).vertex < x = lt_is (get_or near h.0 none_star).vertex x (place.0 h.0 none_star (omega arith) l) in absurd (omega (arith, b, v none_star))
+      | inl l ↦ let b : (get_or near h.0 none_star).vertex < x = ltb-true (get_or near h.0 none_star).vertex x (place.0 h.0 none_star (omega arith) l) in absurd (omega (arith, b, v none_star))
       | inr m ↦ elim (cases_lt at h.0) [
         | inl l ↦
             let b : (get_or near at none_star).vertex < (get_or near h.0 none_star).vertex = vertex_below near at h.0 none_star r l inside in
-            let c : x ≤ (get_or near at none_star).vertex = lt_not (get_or near at none_star).vertex x (place.1 at none_star (omega arith) (omega (arith, l, inside))) in
+            let c : x ≤ (get_or near at none_star).vertex = ltb-false (get_or near at none_star).vertex x (place.1 at none_star (omega arith) (omega (arith, l, inside))) in
             absurd (omega (arith, b, c, v none_star))
         | inr k ↦ omega arith
       ]
@@ -96,7 +81,3 @@ pub each_at : {X : Type 0} (P : X → Type 0) (xs : List X) (i : ℕ) (d : X) �
 each_at P [] i d h l = absurd (omega (arith, l))
 each_at P (x ∷ xs) zero d h l = h.0
 each_at P (x ∷ xs) (suc i) d h l = each_at P xs i d h.1 (omega (arith, l))
-
-pub each_from : {X : Type 0} (P : X → Type 0) (xs : List X) (d : X) → ((i : ℕ) → i < length xs → P (get_or xs i d)) → AllByRecursion P xs
-each_from P [] d h = tt
-each_from P (x ∷ xs) d h = (h 0 (omega arith), each_from P xs d (λ i l. h (suc i) (omega (arith, l))))

@@ -58,7 +58,7 @@ all_dims : (near : List VertexStar) (k : Space) (more : List (List ℕ)) → All
 all_dims [] k more h p = tt
 all_dims (s ∷ near) k more h p = (let P : ℕ → Type 0 = λ d. AllByRecursion (IsFacet d) more in subst P (sym h.0.dim) p, all_dims near k more h.1 p)
 
-labels_held : (vs a b : List ℕ) → holds vs a ≡ true → holds vs b ≡ true → holds vs (union a b) ≡ true
+pub labels_held : (vs a b : List ℕ) → holds vs a ≡ true → holds vs b ≡ true → holds vs (union a b) ≡ true
 labels_held vs a b p q = holds_each vs (union a b) (λ z t. either (has a z) (has b z) (has vs z) (sym (has-union a b z) ∙ t) (λ h. holds_has vs a z p h) (λ h. holds_has vs b z q h))
   where
     either : (x y z : Bool) → (x || y) ≡ true → (x ≡ true → z ≡ true) → (y ≡ true → z ≡ true) → z ≡ true
@@ -99,7 +99,7 @@ made_flipped k near last a b labels out more h ok e el eo em = e ∙ (λ i. star
 
 -- ---- of which complex they are then
 
-same_vertices : (near : List VertexStar) (a b : List ℕ) → vertices (stars_flipped near a b) ≡ vertices near
+pub same_vertices : (near : List VertexStar) (a b : List ℕ) → vertices (stars_flipped near a b) ≡ vertices near
 same_vertices [] a b = refl
 same_vertices (s ∷ near) a b = ap (λ vs. s.vertex ∷ vs) (same_vertices near a b)
 

@@ -16,7 +16,7 @@ use Rattle.complex_core.specs.Maps.{used}
 use Rattle.complex_core.specs.Links.{less}
 use Rattle.complex_core.proofs.Sets.{sorted_rising, sorted_none, any-rising}
 use Rattle.complex_core.proofs.Faces.{equal_cmp, length-union}
-use Rattle.complex_core.proofs.Laws.{both_ways, nat_eq_is, nat_eq_same, has-union, has-without, or_left, sorted_union, same_labels, sorted_without, length-without}
+use Rattle.complex_core.proofs.Laws.{both_ways, nat_eq_is, has-union, or_left, sorted_union, same_labels, sorted_without, length-without}
 use Rattle.complex_core.proofs.SubsetLists.{two, clash}
 use Rattle.flip_rules.specs.Flips.{Shaped, sides, has_shape, link_is, why_near}
 use Rattle.flip_rules.specs.declared.flip.Flip.{Flip}
@@ -24,6 +24,7 @@ use Rattle.flip_rules.specs.declared.flip.Illegal.{Illegal}
 use Rattle.flip_rules.proofs.Links.{have_sides, are_sides, link_tested, sides_held}
 use Rattle.flip_rules.proofs.Legal.{verdict, shaped, shape_from}
 use Rattle.stars.specs.Candidates.{flip_of, opposite, is_candidate, flip_at}
+use Rattle.complex_core.proofs.Members.{sorted_less, has-less}
 
 -- ---- the labels of the facets over a face, gathered one facet after another
 
@@ -85,28 +86,6 @@ pub too_many : (rows more : List (List ℕ)) (a labels : List ℕ) → gathered 
 too_many rows more a labels e n h = n (omega (arith, more_gathered labels more a, ap length (sym e ∙ gathered_all rows a), h))
 
 -- ---- the labels that are left beside the face
-
-pub sorted_less : (xs ys : List ℕ) → IsStrictlySortedBy nat_cmp xs → IsStrictlySortedBy nat_cmp (less xs ys)
-sorted_less xs [] r = r
-sorted_less xs (y ∷ ys) r = sorted_less (without xs y) ys (sorted_without xs y r)
-
-pub has-less : (xs ys : List ℕ) (z : ℕ) → has (less xs ys) z ≡ (has xs z && not (has ys z))
-has-less xs [] z = sym (and_true (has xs z))
-  where
-    and_true : (b : Bool) → (b && true) ≡ b
-    and_true true = refl
-    and_true false = refl
-has-less xs (y ∷ ys) z = has-less (without xs y) ys z ∙ ap (λ b. b && not (has ys z)) (has-without xs y z ∙ ap (λ b. has xs z && not b) (swapped z y)) ∙ table (has xs z) (nat_eq y z) (has ys z)
-  where
-    table : (a b c : Bool) → ((a && not b) && not c) ≡ (a && not (b || c))
-    table true true c = refl
-    table true false c = refl
-    table false b c = refl
-
-    swapped : (z y : ℕ) → nat_eq z y ≡ nat_eq y z
-    swapped z y = both_ways (nat_eq z y) (nat_eq y z)
-        (λ e. ap (λ w. nat_eq w z) (sym (nat_eq_is z y e)) ∙ nat_eq_same z)
-        (λ e. ap (λ w. nat_eq w y) (sym (nat_eq_is y z e)) ∙ nat_eq_same y)
 
 one_less : (xs : List ℕ) (x : ℕ) → IsStrictlySortedBy nat_cmp xs → length xs ≤ length (without xs x) + 1
 one_less [] x r = omega arith

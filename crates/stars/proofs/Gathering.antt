@@ -1,5 +1,5 @@
 -- The complex gathered from its stars: each facet from the star of its first label.
-use Rattle.std.proofs.Common.{◌≡◌, ℕ, zero, suc, ◌+◌, ◌-◌, ◌<◌, ◌≤◌, Bool, true, false, nat_eq, ◌||◌, List, [], ◌∷◌, length, take, Result, Ok, Err, IfOk, sym, ◌∙◌, ap, refl, subst, arith}
+use Rattle.std.proofs.Common.{◌≡◌, ℕ, zero, suc, ◌+◌, ◌-◌, ◌<◌, ◌≤◌, true, false, nat_eq, ◌||◌, List, [], ◌∷◌, length, take, Result, Ok, Err, IfOk, sym, ◌∙◌, ap, refl, subst, arith}
 use Rattle.std.specs.List.{flat_map, AllByRecursion}
 use Rattle.std.specs.Ordering.{nat_cmp}
 use Rattle.std.specs.Cmp.{first_so}
@@ -12,17 +12,14 @@ use Rattle.complex_core.specs.Spaces.{Space, IsComplex, IsFacet}
 use Rattle.complex_core.specs.ComplexFaults.{CanMake, StopsPure, CanBegin, first_size}
 use Rattle.complex_core.proofs.Sets.{above_head, sorted_rising}
 use Rattle.complex_core.proofs.Faces.{less_cmp}
-use Rattle.complex_core.proofs.Laws.{both_ways, nat_eq_is, nat_eq_same, or_left, or_right, listed, listed-append, listed-filter, listed-rising, same_lists, same_sets_is, same_set_itself}
+use Rattle.complex_core.proofs.Laws.{both_ways, nat_eq_is, nat_eq_same, or_left, or_right, listed, listed-append, listed-filter, listed-rising, same_lists, same_set_itself, either}
 use Rattle.star_laws.specs.Stars.{star}
 use Rattle.stars.specs.StarViews.{VertexStar, StarList, all_stars, vertices, places_in, IsStarOf, AreStarsOf, IsStarListOf}
 use Rattle.stars.specs.Building.{begins, first_rows}
 use Rattle.stars.proofs.Numbering.{has_numbered, listed_stars}
 use Rattle.stars.proofs.Mapping.{uses_of}
 use Rattle.stars.proofs.Finding.{each_at}
-
-either : (x y z : Bool) → (x || y) ≡ true → (x ≡ true → z ≡ true) → (y ≡ true → z ≡ true) → z ≡ true
-either true y z h f g = f refl
-either false y z h f g = g h
+use Rattle.complex_core.proofs.SetLists.{of_kind, some_before_rising}
 
 -- what is gathered are facets
 gathered_listed : (k : Space) (stars : List VertexStar) (f : List ℕ) → AllByRecursion (IsStarOf k) stars → listed (flat_map first_rows stars) f ≡ true → listed k.facets f ≡ true
@@ -45,15 +42,6 @@ listed_gathered k (s ∷ stars) f v h t l b i =
       | false ↦ λ _ r. or_right (listed (first_rows s) f) (listed (flat_map first_rows stars) f) (listed_gathered k stars f v h.1 r l b i)
     ] refl t
 
--- what is listed among facets of a kind is of that kind
-of_kind : (P : List ℕ → Type 0) (fs : List (List ℕ)) (f : List ℕ) → AllByRecursion P fs → listed fs f ≡ true → P f
-of_kind P [] f h t = absurd (true≢false (sym t))
-of_kind P (g ∷ fs) f h t =
-    elim (pointwise nat_eq g f) as (λ b. pointwise nat_eq g f ≡ b → (b || listed fs f) ≡ true → P f) [
-      | true ↦ λ e _. subst P (same_sets_is g f e) h.0
-      | false ↦ λ _ r. of_kind P fs f h.1 r
-    ] refl t
-
 all_kind : (P : List ℕ → Type 0) (fs : List (List ℕ)) → ((f : List ℕ) → listed fs f ≡ true → P f) → AllByRecursion P fs
 all_kind P [] h = tt
 all_kind P (f ∷ fs) h = (h f (or_left (pointwise nat_eq f f) (listed fs f) (same_set_itself f)), all_kind P fs (λ g t. h g (or_right (pointwise nat_eq f g) (listed fs g) t)))
@@ -69,15 +57,11 @@ pub record AreFacets (k : Space) (fs : List (List ℕ)) : Type 0 where
   pub sized : AllByRecursion (λ f. length f ≡ k.dim + 1) fs
   pub some : 0 < length fs
 
-some_rising_of : (fs : List (List ℕ)) → 0 < length (rising face_cmp fs) → 0 < length fs
-some_rising_of [] h = h
-some_rising_of (f ∷ fs) h = omega arith
-
 pub gathered_facets : (k : Space) (m : StarList) → IsStarListOf k m → AreFacets k (flat_map first_rows (all_stars m))
 gathered_facets k m h = record {
   same = same;
   sized = all_kind (λ f. length f ≡ k.dim + 1) fs (λ f t. (of_kind (IsFacet k.dim) k.facets f h.complex.pure (gathered_listed k (all_stars m) f stars.each t)).size);
-  some = some_rising_of fs (let e : length (rising face_cmp fs) ≡ length k.facets = ap length same in omega (arith, e, h.complex.some));
+  some = some_before_rising fs (let e : length (rising face_cmp fs) ≡ length k.facets = ap length same in omega (arith, e, h.complex.some));
 }
   where
     fs : List (List ℕ)

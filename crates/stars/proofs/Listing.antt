@@ -19,24 +19,10 @@ use Rattle.flip_rules.specs.Flips.{sides, link_is, same_sets}
 use Rattle.flip_rules.proofs.Links.{have_sides, are_sides, link_tested, sides_held}
 use Rattle.complex_core.specs.Maps.{used}
 use Rattle.complex_core.specs.Links.{less}
+use Rattle.complex_core.proofs.SetLists.{listed-flat_map, of_kind}
 use Rattle.stars.specs.StarViews.{VertexStar, IsStar}
 use Rattle.stars.specs.Candidates.{opposite, is_candidate, faces_at, candidate_faces}
 use Rattle.stars.specs.Lists.{candidates_within, not_within, list_after, ChangedWithin}
-
--- ---- lists of sets
-
--- what one of several lists has
-pub listed-flat_map : (f : List ℕ → List (List ℕ)) (rows : List (List ℕ)) (s : List ℕ) → listed (flat_map f rows) s ≡ list_any (λ row. listed (f row) s) rows
-listed-flat_map f [] s = refl
-listed-flat_map f (row ∷ rows) s = listed-append (f row) (flat_map f rows) s ∙ ap (λ b. listed (f row) s || b) (listed-flat_map f rows s)
-
--- a fact of each, of one that is listed
-pub each_listed : (P : List ℕ → Type 0) (xs : List (List ℕ)) (a : List ℕ) → AllByRecursion P xs → listed xs a ≡ true → P a
-each_listed P [] a h t = clash true refl (sym t)
-each_listed P (x ∷ xs) a h t = elim (two (pointwise nat_eq x a)) [
-  | inl e ↦ subst P (same_sets_is x a e) h.0
-  | inr e ↦ each_listed P xs a h.1 (sym (ap (λ b. b || listed xs a) e) ∙ t)
-]
 
 -- a candidate is seen in the rows over it
 candidate_alike : (near rows : List (List ℕ)) (n : ℕ) (a : List ℕ) → over near a ≡ over rows a → is_candidate near n a ≡ is_candidate rows n a

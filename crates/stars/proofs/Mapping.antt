@@ -22,6 +22,7 @@ use Rattle.stars.specs.StarViews.{VertexStar, StarList, AreNumbered, UsesUpTo, n
 use Rattle.stars.specs.FlipsHere.{star_flipped, stars_flipped}
 use Rattle.stars.proofs.Finding.{each_at}
 use Rattle.stars.proofs.Numbering.{numbered_at, listed_stars, has_places}
+use Rattle.std.specs.Cmp.{first_so}
 
 -- the stars that a map has, from its fields
 pub items_are : (m : StarList) (dim : ℕ) (items : List VertexStar) → record { dim = dim; stars = map (λ (s : VertexStar). s.rows) items } ≡ m → AreNumbered dim items → items ≡ all_stars m
@@ -39,7 +40,7 @@ placed_star m shown place s e low high is = is ∙ ap (λ ss. get_or ss (place -
 
 -- ---- which labels are used
 
-has_append : (xs ys : List ℕ) (p : ℕ) → has (xs ++ ys) p ≡ (has xs p || has ys p)
+pub has_append : (xs ys : List ℕ) (p : ℕ) → has (xs ++ ys) p ≡ (has xs p || has ys p)
 has_append [] ys p = refl
 has_append (x ∷ xs) ys p = ap (λ b. nat_eq x p || b) (has_append xs ys p) ∙ assoc (nat_eq x p) (has xs p) (has ys p)
   where
@@ -89,22 +90,18 @@ uses_of k n f p h t e = has_bound n (used k.facets) p h (has_used k.facets p ∙
 pub uses_from : (k : Space) (n : ℕ) → ((f : List ℕ) (p : ℕ) → listed k.facets f ≡ true → has f p ≡ true → p ≤ n) → UsesUpTo k n
 uses_from k n h = from_has n (used k.facets) (λ p t. let r : (f : List ℕ) × (listed k.facets f ≡ true) × (has f p ≡ true) = listed_has k.facets p (sym (has_used k.facets p) ∙ t) in h r.0 p r.1 r.2)
 
-either : (x y : Bool) (C : Type 0) → (x || y) ≡ true → (x ≡ true → C) → (y ≡ true → C) → C
+pub either : (x y : Bool) (C : Type 0) → (x || y) ≡ true → (x ≡ true → C) → (y ≡ true → C) → C
 either true y C h f g = f refl
 either false y C h f g = g h
-
-first_of_two : (x y : Bool) → (x && y) ≡ true → x ≡ true
-first_of_two true y h = refl
-first_of_two false y h = h
 
 uses_flipped : (k : Space) (f : Flip) (n : ℕ) → UsesUpTo k n → AllByRecursion (λ x. x ≤ n) f.a → AllByRecursion (λ x. x ≤ n) f.b → UsesUpTo (flipped k f.a f.b) n
 uses_flipped k f n h ha hb = uses_from (flipped k f.a f.b) n (λ g p t e.
     either (listed k.facets g && not (holds g f.a)) (listed (sides f.b f.a) g) (p ≤ n) (sym (listed-flipped k f.a f.b g) ∙ t)
-    (λ r. uses_of k n g p h (first_of_two (listed k.facets g) (not (holds g f.a)) r) e)
+    (λ r. uses_of k n g p h (first_so (listed k.facets g) (not (holds g f.a)) r) e)
     (λ r. let s : (x : ℕ) × (has f.a x ≡ true) × (g ≡ union f.b (without f.a x)) = side_of f.b f.a g r in
     either (has f.b p) (has (without f.a s.0) p) (p ≤ n) (sym (has-union f.b (without f.a s.0) p) ∙ ap (λ x. has x p) (sym s.2) ∙ e)
     (λ q. has_bound n f.b p hb q)
-    (λ q. has_bound n f.a p ha (first_of_two (has f.a p) (not (nat_eq p s.0)) (sym (has-without f.a s.0 p) ∙ q)))))
+    (λ q. has_bound n f.a p ha (first_so (has f.a p) (not (nat_eq p s.0)) (sym (has-without f.a s.0 p) ∙ q)))))
 
 -- ---- the map after a flip
 

@@ -1,24 +1,19 @@
 -- The stars of the places from 1 on.
-use Rattle.std.proofs.Common.{◌≡◌, ℕ, zero, suc, ◌+◌, ◌-◌, ◌<◌, ◌≤◌, true, nat_eq, List, [], ◌∷◌, length, map, take, drop, get_or, sym, ◌∙◌, ap, refl, subst, arith, inl, inr}
+use Rattle.std.proofs.Common.{◌≡◌, ℕ, zero, suc, ◌+◌, ◌-◌, ◌<◌, ◌≤◌, true, nat_eq, List, [], ◌∷◌, length, get_or, sym, ◌∙◌, ap, refl, arith, inl, inr}
 use Rattle.std.specs.List.{AllByRecursion}
 use Rattle.std.specs.List.Sorted.{IsStrictlySortedBy}
 use Rattle.std.specs.Ordering.{nat_cmp}
 use Rattle.std.specs.Cmp.Derive.{both_true}
 use Rattle.std.proofs.lemmas.Bool.{cases_lt}
-use Rattle.std.proofs.lemmas.List.{take-append-drop}
 use Rattle.complex_core.specs.Labels.{IsRising, has, holds}
 use Rattle.complex_core.specs.Spaces.{Space}
-use Rattle.complex_core.proofs.Sets.{Above, above_cons, above_head, sorted_none, sorted_front}
+use Rattle.complex_core.proofs.Sets.{Above, above_cons, above_head, sorted_none}
 use Rattle.complex_core.proofs.Faces.{cmp_less, less_cmp}
 use Rattle.complex_core.proofs.Laws.{nat_eq_same, or_left, or_right}
 use Rattle.flip_rules.specs.Flips.{OfFaces}
 use Rattle.flip_rules.specs.declared.flip.Flip.{Flip}
 use Rattle.star_laws.specs.Stars.{star}
-use Rattle.stars.specs.StarViews.{VertexStar, StarList, AreNumbered, numbered, all_stars, vertices, places_in, IsStarOf, AreStarsOf, IsStarListOf, HasLabels, OnPlaces}
-
-pub length-numbered : (d n : ℕ) (stars : List (List (List ℕ))) → length (numbered d n stars) ≡ length stars
-length-numbered d n [] = refl
-length-numbered d n (rows ∷ more) = ap suc (length-numbered d (n + 1) more)
+use Rattle.stars.specs.StarViews.{VertexStar, StarList, numbered, all_stars, vertices, places_in, IsStarOf, AreStarsOf, IsStarListOf, HasLabels, OnPlaces}
 
 pub numbered_at : (d n v : ℕ) (stars : List (List (List ℕ))) (i : ℕ) (other : VertexStar) → i < length stars → v ≡ n + i + 1 → get_or (numbered d n stars) i other ≡ record { vertex = v; dim = d; rows = get_or stars i [] }
 numbered_at d n v [] i other l e = absurd (omega (arith, l))
@@ -69,39 +64,3 @@ has_places m f faces h = record {
   first = held_above m 0 f.a (above_head nat_cmp 0 f.a faces.first.rising) h.first;
   second = held_above m 0 f.b (above_head nat_cmp 0 f.b faces.second.rising) h.second;
 }
-
-front_vertices : (n : ℕ) (near : List VertexStar) → vertices (take n near) ≡ take n (vertices near)
-front_vertices zero near = refl
-front_vertices (suc n) [] = refl
-front_vertices (suc n) (s ∷ near) = ap (λ vs. s.vertex ∷ vs) (front_vertices n near)
-
-front_each : (k : Space) (n : ℕ) (near : List VertexStar) → AllByRecursion (IsStarOf k) near → AllByRecursion (IsStarOf k) (take n near)
-front_each k zero near h = tt
-front_each k (suc n) [] h = tt
-front_each k (suc n) (s ∷ near) h = (h.0, front_each k n near h.1)
-
--- the first of some stars
-pub front_stars : (k : Space) (n : ℕ) (near : List VertexStar) → AreStarsOf k near → AreStarsOf k (take n near)
-front_stars k n near h = record {
-  complex = h.complex;
-  rising =
-      let P : List ℕ → Type 0 = λ vs. IsRising vs in
-      let Q : List ℕ → Type 0 = λ vs. IsStrictlySortedBy nat_cmp (0 ∷ vs) in
-      subst P (sym (front_vertices n near)) (sorted_front nat_cmp (0 ∷ take n (vertices near)) (drop n (vertices near)) (subst Q (sym (take-append-drop n (vertices near))) h.rising));
-  each = front_each k n near h.each;
-}
-
--- what a map is taken apart into can be put together
-pub all_numbered : (m : StarList) → AreNumbered m.dim (all_stars m)
-all_numbered m = ap (numbered m.dim 0) (sym (rows_numbered m.dim 0 m.stars))
-  where
-    rows_numbered : (d n : ℕ) (stars : List (List (List ℕ))) → map (λ (s : VertexStar). s.rows) (numbered d n stars) ≡ stars
-    rows_numbered d n [] = refl
-    rows_numbered d n (rows ∷ more) = ap (λ ss. rows ∷ ss) (rows_numbered d (n + 1) more)
-
--- stars whose vertices are their places, in one dimension
-pub numbered_each : (d n : ℕ) (stars : List VertexStar) → ((i : ℕ) (other : VertexStar) → i < length stars → (get_or stars i other).vertex ≡ n + i + 1) → AllByRecursion (λ (s : VertexStar). s.dim ≡ d) stars → stars ≡ numbered d n (map (λ (s : VertexStar). s.rows) stars)
-numbered_each d n [] h g = refl
-numbered_each d n (s ∷ stars) h g =
-    let v : s.vertex ≡ n + 1 = let e : n + 0 + 1 ≡ n + 1 = omega arith in h 0 s (omega arith) ∙ e in
-    λ j. record { vertex = v j; dim = g.0 j; rows = s.rows } ∷ numbered_each d (n + 1) stars (λ i other l. let e : n + suc i + 1 ≡ n + 1 + i + 1 = omega arith in h (suc i) other (omega (arith, l)) ∙ e) g.1 j

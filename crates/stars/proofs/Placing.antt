@@ -13,8 +13,9 @@ use Rattle.std.specs.Cmp.Lexicographic.{pointwise}
 use Rattle.star_laws.specs.Stars.{star}
 use Rattle.stars.specs.StarViews.{VertexStar, IsStar, AreNumbered, UsesUpTo, numbered, IsStarListOf}
 use Rattle.stars.specs.Building.{stars_of, with_row, with_rows, CanAdd}
-use Rattle.stars.proofs.Changing.{each_filter, star_held}
+use Rattle.stars.proofs.Changing.{star_held}
 use Rattle.stars.proofs.Mapping.{uses_of}
+use Rattle.complex_core.proofs.Sorting.{each_filter}
 
 pub length-stars_of : (d : ℕ) (fs : List (List ℕ)) (n count : ℕ) → length (stars_of d fs n count) ≡ count
 length-stars_of d fs n zero = refl

@@ -1,6 +1,5 @@
 -- Stars of one complex.
-use Rattle.std.proofs.Common.{◌≡◌, ℕ, ◌≤◌, Bool, true, false, cond, List, [], ◌∷◌, sym, ◌∙◌, ap, refl, subst, arith}
-use Rattle.std.specs.List.{filter}
+use Rattle.std.proofs.Common.{◌≡◌, ℕ, ◌≤◌, true, List, [], ◌∷◌, sym, ◌∙◌, ap, refl, subst, arith}
 use Rattle.std.specs.Cmp.Derive.{both_true}
 use Rattle.complex_core.specs.Labels.{has, holds, face_cmp}
 use Rattle.complex_core.specs.Spaces.{Space, over}
@@ -10,6 +9,7 @@ use Rattle.flip_rules.specs.Flips.{IsNear}
 use Rattle.star_laws.specs.Stars.{star}
 use Rattle.stars.specs.StarViews.{VertexStar, IsStar, IsStarOf}
 use Rattle.stars.specs.Lists.{CandidateList, AreLists}
+use Rattle.star_laws.proofs.FlipStars.{filter_within}
 
 pub empty_is_star : (vertex dim : ℕ) (rows : List (List ℕ)) → rows ≡ [] → 1 ≤ vertex → dim ≤ 6 → IsStar (record { vertex = vertex; dim = dim; rows = rows })
 empty_is_star vertex dim rows e pos low =
@@ -25,18 +25,6 @@ empty_star vertex dim rows lists e none pos low =
 -- a star once more, whose lists are right where the old ones were
 pub same_star : (s t : VertexStar) (old new : List CandidateList) → t ≡ s → IsStar s × AreLists s old → ((r : VertexStar) → AreLists r old → AreLists r new) → IsStar t × AreLists t new
 same_star s t old new e h f = let P : VertexStar → Type 0 = λ r. IsStar r × AreLists r new in subst P (sym e) (h.0, f s h.1)
-
--- a test that goes through another one
-filter_within : (p q : List ℕ → Bool) (fs : List (List ℕ)) → ((f : List ℕ) → p f ≡ true → q f ≡ true) → filter p fs ≡ filter p (filter q fs)
-filter_within p q [] h = refl
-filter_within p q (f ∷ fs) h =
-    elim (q f) as (λ c. q f ≡ c → cond (p f) (f ∷ filter p fs) (filter p fs) ≡ filter p (cond c (f ∷ filter q fs) (filter q fs))) [
-      | true ↦ λ e. ap (λ gs. cond (p f) (f ∷ gs) gs) (filter_within p q fs h)
-      | false ↦ λ e. elim (p f) as (λ c. p f ≡ c → cond c (f ∷ filter p fs) (filter p fs) ≡ filter p (filter q fs)) [
-        | true ↦ λ t. let g : true ≡ false = sym (h f t) ∙ e in cc
-        | false ↦ λ t. filter_within p q fs h
-      ] refl
-    ] refl
 
 -- what contains a set lies in the star of each of its labels
 pub over_star : (fs : List (List ℕ)) (a : List ℕ) (x : ℕ) → has a x ≡ true → over (star fs x) a ≡ over fs a

@@ -16,6 +16,7 @@ use Rattle.line_text.specs.Labels.{allows}
 use Rattle.line_text.specs.Numbers.{is_number}
 use Rattle.trace_text.specs.Grammar.{events_past}
 use Rattle.trace_text.proofs.Parts.{err_not_ok, ok_is, test_not, test_ok}
+use Rattle.line_text.proofs.FlipLaws.{positive}
 
 -- from these items on the next line is the same as from those
 abbrev pub Passes : List Item → List Item → Type 0
@@ -36,10 +37,6 @@ pub record Fits (labels : Labels) (side : List ℕ) : Type 0 where
 
 no_labels : (labels : Labels) → Fits labels []
 no_labels labels = record { face = none_is_face; few = omega arith; known = tt }
-
-positive : (labels : Labels) (n : ℕ) → allows labels n ≡ true → 0 < n
-unfolding allows
-positive labels n h = grind arith
 
 one_more : (labels : Labels) (side : List ℕ) (n : ℕ) → Fits labels side → allows labels n ≡ true → has side n ≡ false → length side ≢ 7 → Fits labels (with side n)
 one_more labels side n f a new other =

@@ -7,7 +7,7 @@ use Rattle.complex_core.specs.Spaces.{Space}
 use Rattle.flip_rules.specs.Entries.{JournalEntry}
 use Rattle.board_rule.specs.Books.{Book}
 use Rattle.board_rule.specs.Items.{item, has_item}
-use Rattle.board_rule.specs.Views.{keeps, hand_of, with_journal, without_journal, committed}
+use Rattle.board_rule.specs.Views.{keeps, hand_of, without_journal, committed}
 use Rattle.board_rule.specs.Plays.{Seated}
 use Rattle.vertex_claims.specs.Held.{Shuffled, slot_at, knows, HasBook, HasRoom, is_journal, entries_in, room_in}
 use Rattle.board_rule.specs.declared.data.Slot.{Slot}
@@ -47,9 +47,6 @@ without_journal_keeps v = (refl, λ q ne. tested q 0 (λ b. cond b false (has_it
 
 pub committed_keeps : (v : Hand) (e : JournalEntry) (k : Space) → (keeps (committed v e k) 0 ≡ false) × ((q : ℕ) → q ≢ 0 → keeps (committed v e k) q ≡ keeps v q)
 committed_keeps v e k = (refl, λ q ne. tested q 0 (λ b. cond b false (has_item (committed v e k).items q) ≡ cond b v.has_journal (has_item v.items q)) (λ z. absurd (ne z)) (λ _. has_flipped e.flips v.items q))
-
-pub with_journal_keeps : (v : Hand) (journal : List JournalEntry) (q : ℕ) → q ≢ 0 → keeps (with_journal v journal) q ≡ keeps v q
-with_journal_keeps v journal q ne = tested q 0 (λ b. cond b true (has_item v.items q) ≡ cond b v.has_journal (has_item v.items q)) (λ e. absurd (ne e)) (λ _. refl)
 
 -- the journal is put back, with the same entries
 pub book_again : (old mid new : Seated) (b b' : Book) → Shuffled old mid → mid.1 ≡ (0, Journal b) ∷ rest mid.1 → new ≡ (mid.0, (0, Journal b') ∷ rest mid.1) → b'.entries ≡ b.entries → HasBook old → HasBook new

@@ -58,10 +58,6 @@ same_book a b h = let e : Journal a ≡ Journal b = some-injective (Journal a) (
 pub same_home : (a b : HomeOf) → some (Home a) ≡ some (Home b) → a ≡ b
 same_home a b h = let e : Home a ≡ Home b = some-injective (Home a) (Home b) h in cc
 
-pub length-stars_of : (d : ℕ) (facets : List (List ℕ)) (n count : ℕ) → length (stars_of d facets n count) ≡ count
-length-stars_of d facets n zero = refl
-length-stars_of d facets n (suc count) = ap suc (length-stars_of d facets (n + 1) count)
-
 -- one place more
 pub stars_next : (d : ℕ) (facets : List (List ℕ)) (n count p : ℕ) → p ≡ n + count + 1 → stars_of d facets n (suc count) ≡ stars_of d facets n count ++ record { vertex = p; dim = d; rows = star facets p } ∷ []
 stars_next d facets n zero p e = let g : n + 1 ≡ p = omega arith in λ i. record { vertex = g i; dim = d; rows = star facets (g i) } ∷ []

@@ -52,20 +52,6 @@ room_left l p n one below free near =
     let t = length-le_from_distinct_below (places_of longer) n (distinct longer one') all in
     omega arith
 
--- a place comes, with its slot
-pub ready_more : (m n : Seated) (order : List ℕ) (room worker p : ℕ) (x : Slot) (w : Hand) → Ready m order room worker → n ≡ (Pass w, (p, x) ∷ m.1) → w.worker ≡ (knows m).worker → keeps (knows m) p ≡ false → p < room
-    → keeps w p ≡ true → ((q : ℕ) → q ≢ p → keeps w q ≡ keeps (knows m) q) → Ready n (p ∷ order) room worker
-ready_more m n order room worker p x w r is same free near now others = subst (λ (y : Seated). Ready y (p ∷ order) room worker) (sym is) (
-    let no : has_item m.1 p ≡ false = r.agrees p ∙ free in
-    record {
-      passes = refl;
-      number = same ∙ r.number;
-      ordered = ap (λ (l : List ℕ). p ∷ l) r.ordered;
-      once = ap (λ (b : Bool). cond b false (single m.1)) no ∙ r.once;
-      agrees = λ q. tested p q (λ b. cond b true (has_item m.1 q) ≡ keeps w q) (λ e. sym now ∙ ap (λ (k : ℕ). keeps w k) e) (λ ne. r.agrees q ∙ sym (others q (λ e. ne (sym e))));
-      below = λ q. tested p q (λ b. cond b true (has_item m.1 q) ≡ true → q < room) (λ e _. subst (λ (k : ℕ). k < room) e near) (λ _ t. r.below q t);
-    })
-
 -- the place in front goes
 ready_less_at : (x : View) (c l : List (ℕ × Slot)) (order order' : List ℕ) (room worker p : ℕ) (y : Slot) (w : Hand) → c ≡ (p, y) ∷ l → Ready (x, c) order room worker → order' ≡ places_of l → w.worker ≡ (hand_of x).worker
     → keeps w p ≡ false → ((q : ℕ) → q ≢ p → keeps w q ≡ keeps (hand_of x) q) → Ready (Pass w, l) order' room worker

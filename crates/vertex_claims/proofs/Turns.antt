@@ -50,9 +50,6 @@ module _ {A : Type 0} where
   index_back p x [] h = off h
   index_back p x (y ∷ ys) h = tested y.0 p (λ b. cond b true (has_item ys p) ≡ true → cond b 0 (suc (index_of p (places_of (ys ++ x ∷ [])))) ≡ cond b 0 (suc (index_of p (places_of ys)))) (λ _ _. refl) (λ _ t. ap suc (index_back p x ys t)) h
 
-pub shuffled_refl : (m : Seated) → Shuffled m m
-shuffled_refl m = record { view = refl; slots = λ p. refl; has = λ p. refl; once = refl }
-
 pub shuffled_then : (m n : Seated) (v : Seated) → Shuffled m n → Shuffled n v → Shuffled m v
 shuffled_then m n v a b = record { view = b.view ∙ a.view; slots = λ p. b.slots p ∙ a.slots p; has = λ p. b.has p ∙ a.has p; once = b.once ∙ a.once }
 

@@ -5,13 +5,13 @@ use Rattle.complex_core.specs.Maps.{takes, face_image}
 use Rattle.complex_core.proofs.Images.{image_done, image_fits, label_taken, positive_at}
 use Rattle.complex_core.proofs.relabel.image_of.Goals as goal
 
-pub returns-in_err-get : goal.returns-in_err-get
-returns-in_err-get c =
+pub returns-in_err-get-clause-image : goal.returns-in_err-get-clause-image
+returns-in_err-get-clause-image c =
     let P : Option (List ℕ) → Type 0 = λ r. SomeIff r (list_all (takes c.args.map.now) c.args.face.now ≡ true) (face_image c.args.map.now c.args.face.now) in
     subst P (sym c.from_residual.ensures) (λ all. c.in_err-get.ensures.get (label_taken c.args.map.now c.as_slice-label-items.result.now c.args.face.now c.loop-label.label-index (c.as_slice-label-items.ensures ∙ c.labels.ensures.labels) c.loop-label-test.true all))
 
-pub returns-in_err-image : goal.returns-in_err-image
-returns-in_err-image c =
+pub returns-in_err-image-clause-image : goal.returns-in_err-image-clause-image
+returns-in_err-image-clause-image c =
     let P : Option (List ℕ) → Type 0 = λ r. SomeIff r (list_all (takes c.args.map.now) c.args.face.now ≡ true) (face_image c.args.map.now c.args.face.now) in
     let Q : ℕ → Type 0 = λ y. 0 < y in
     subst P (sym c.from_residual-in_err-image.ensures) (λ all. c.in_err-image.ensures (
@@ -19,5 +19,5 @@ returns-in_err-image c =
       image_fits c.args.map.now c.as_slice-label-items.result.now c.args.face.now c.loop-label.image c.loop-label.label-index c.in_ok-get.field-0 (c.as_slice-label-items.ensures ∙ c.labels.ensures.labels) c.labels.ensures.face c.loop-label-test.true c.loop-label.invariant.made,
     ))
 
-pub returns : goal.returns
-returns c = image_done _ _ _ _ _ (c.as_slice-label-items.ensures ∙ c.labels.ensures.labels) c.loop-label-test.false c.loop-label.invariant.made c.loop-label.invariant.taken
+pub returns-clause-image : goal.returns-clause-image
+returns-clause-image c = image_done _ _ _ _ _ (c.as_slice-label-items.ensures ∙ c.labels.ensures.labels) c.loop-label-test.false c.loop-label.invariant.made c.loop-label.invariant.taken

@@ -1,9 +1,9 @@
 use Rattle.std.proofs.Common.{◌+◌, sym, ◌∙◌, subst, ap}
-use Rattle.pseudo_test.proofs.Subsets.{clash}
 use Rattle.flip_options.specs.Tables.{Table, Refreshed}
 use Rattle.flip_options.proofs.Looking.{star_next, star_skip, star_end, PartSoFar}
 use Rattle.flip_options.proofs.refresh.refresh_star.Goals as goal
 use Rattle.flip_options.proofs.refresh.refresh_star.Goals.{then-begins_with+in_ok-refresh_parts, else-begins_with}
+use Rattle.complex_core.proofs.SubsetLists.{clash}
 
 pub loop-facet-preserved : goal.loop-facet-preserved
 loop-facet-preserved c =

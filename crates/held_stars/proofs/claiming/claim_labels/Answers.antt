@@ -2,17 +2,18 @@ use Rattle.std.proofs.Common.{◌∙◌, ◌+◌, List, ℕ, sym, ap, get_or, ta
 use Rattle.std.proofs.lemmas.List.{take_more}
 use Rattle.complex_core.specs.Labels.{has}
 use Rattle.vertex_claims.specs.Passes.{know}
-use Rattle.held_stars.proofs.LentStars.{positive_at, has_here, same_passes, take_all}
+use Rattle.held_stars.proofs.LentStars.{positive_at, same_passes, take_all}
 use Rattle.held_stars.proofs.Claims.{held_more}
 use Rattle.held_stars.proofs.Gates.{follows_both, keeps_both}
 use Rattle.held_stars.proofs.InOrder.{only_next, only_some, only_all, ended_at}
 use Rattle.held_stars.proofs.claiming.claim_labels.Goals as goal
+use Rattle.complex_core.proofs.Members.{has_place}
 
 pub claim_label-requires-clause-label : goal.claim_label-requires-clause-label
 claim_label-requires-clause-label g c =
     let labels = c.args.labels.now in
     let i = c.loop-label.label-index in
-    (positive_at labels i c.requires.labels.rising c.loop-label-test.true, c.requires.places (get_or labels i 0) (has_here labels i c.loop-label-test.true))
+    (positive_at labels i c.requires.labels.rising c.loop-label-test.true, c.requires.places (get_or labels i 0) (has_place labels i c.loop-label-test.true))
 
 pub claim_label-requires-clause-going : goal.claim_label-requires-clause-going
 claim_label-requires-clause-going g c =
@@ -23,7 +24,7 @@ claim_label-requires-clause-going g c =
 pub returns-in-Err-clause-ends : goal.returns-in-Err-clause-ends
 returns-in-Err-clause-ends g c = λ s now going labels made.
     let i = c.loop-label.invariant.6 s now going labels made in
-    c.in-Err.ensures.ends s i.0 i.1 (labels (get_or c.args.labels.now c.loop-label.label-index 0) (has_here c.args.labels.now c.loop-label.label-index c.loop-label-test.true)) i.2
+    c.in-Err.ensures.ends s i.0 i.1 (labels (get_or c.args.labels.now c.loop-label.label-index 0) (has_place c.args.labels.now c.loop-label.label-index c.loop-label-test.true)) i.2
 
 pub loop-label-preserved : goal.loop-label-preserved
 loop-label-preserved g c =
@@ -43,7 +44,7 @@ loop-label-preserved g c =
       (λ q h. held_more (know c.loop-label.pass).items (know c.claim_label.new.pass).items (take i labels) label e.held inv.5 e.label q (ap (λ (l : List ℕ). has l q) (sym (take_more labels i 0 c.loop-label-test.true)) ∙ h)),
       (λ s now going all made.
           let j = inv.6 s now going all made in
-          let k = e.going s j.0 j.1 (all label (has_here labels i c.loop-label-test.true)) j.2 in
+          let k = e.going s j.0 j.1 (all label (has_place labels i c.loop-label-test.true)) j.2 in
           (k.0, k.1, k.2, k.3 ∙ j.3)),
       omega (arith, later, e.later),
       e.kept.0 ∙ inv.8,

@@ -9,8 +9,9 @@ use Rattle.board_rule.specs.Items.{has_item}
 use Rattle.board_rule.specs.declared.view.Hand.{Hand}
 use Rattle.vertex_claims.specs.Passes.{know}
 use Rattle.held_stars.specs.Holding.{Lends}
-use Rattle.held_stars.proofs.MadeFlips.{union_few, labels_held, near_has_labels, near_stars_of, lent_after, vertices_after, vertices_flipped, lends_flipped, made_flip, restorable, copies_few}
+use Rattle.held_stars.proofs.MadeFlips.{union_few, labels_held, near_has_labels, near_stars_of, lent_after, vertices_after, lends_flipped, made_flip, restorable, copies_few}
 use Rattle.held_stars.proofs.flipping.make_flip.Goals as goal
+use Rattle.stars.proofs.Flipping.{same_vertices}
 
 pub unreachable-requires : goal.unreachable-requires
 unreachable-requires c = c.in_default.ensures (union_few c.args.dim c.args.flip.now c.requires.shape.0 c.requires.shape.1)
@@ -49,7 +50,7 @@ returns-in-Ok-clause-made c = λ k m.
     let f = c.args.flip.now in
     let are = near_stars_of c.args.pass.now c.args.hold.now k c.lend.new.near.items c.deref.result.now c.args.pass.now.sees m c.lend.ensures.vertices (face_same c.in-Some.labels c.deref.result.now (sym (c.deref.ensures ∙ c.labels.ensures.labels)) c.labels.ensures.face) (c.lend.ensures.stars k m.hosts) in
     let e = c.in-Ok.ensures in
-    let vs : vertices c.flip_near-made.new.near.items ≡ c.deref.result.now = ap vertices e.ok ∙ (vertices_flipped c.lend.new.near.items f.a f.b ∙ c.lend.ensures.vertices) in
+    let vs : vertices c.flip_near-made.new.near.items ≡ c.deref.result.now = ap vertices e.ok ∙ (same_vertices c.lend.new.near.items f.a f.b ∙ c.lend.ensures.vertices) in
     let back = c.give_back.ensures.hosts (flipped k f.a f.b) (lends_flipped c.lend.new.pass k f c.deref.result.now (vertices c.flip_near-made.new.near.items) are.complex (c.deref.ensures ∙ c.labels.ensures.labels ∙ c.in-Some.ensures.1) vs (e.legal k are) (c.lend.ensures.lent k m.hosts)) (e.stars k are).each in
     made_flip c.args.pass.now c.give_back.new.pass c.args.hold.now _ k f c.deref.result.now c.lend.new.near.items c.args.pass.now.sees m (c.give_back.ensures.known.0 ∙ c.lend.ensures.known.0) e.faces (e.legal k are) c.requires.labels (c.deref.ensures ∙ c.labels.ensures.labels ∙ c.in-Some.ensures.1) c.lend.ensures.vertices are.each c.push_reserved.ensures.items refl e.all c.give_back.ensures.near.0 back
 

@@ -1,7 +1,7 @@
 use Rattle.std.proofs.Common.{◌≡◌, ◌++◌, take, string_bytes}
 use Rattle.std.specs.List.{flat_map}
 use Rattle.job_answer.specs.Lines.{flip_line}
-use Rattle.job_trace.specs.TraceTexts.{named_flip}
+use Rattle.flip_names.specs.Names.{named_flip}
 use Rattle.job_trace.proofs.text.write_named_flips.Given as goal
 
 abbrev pub invariant-loop-flip : goal.invariant-loop-flip

@@ -1,8 +1,8 @@
 use Rattle.std.proofs.Common.{◌≡◌, ◌∙◌, ◌≤◌, true, length, sym, refl, arith}
 use Rattle.pseudo_test.specs.Ridges.{count}
-use Rattle.pseudo_test.proofs.Subsets.{clash}
 use Rattle.pseudo_test.proofs.Counted.{thin_at, not_thin, passes_more, run_counts}
 use Rattle.pseudo_test.proofs.ridges.thin.Goals as goal
+use Rattle.complex_core.proofs.SubsetLists.{clash}
 
 pub returns-then-over-gt2 : goal.returns-then-over-gt2
 returns-then-over-gt2 c =

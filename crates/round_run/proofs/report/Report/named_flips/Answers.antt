@@ -24,10 +24,10 @@ loop-place-preserved c = elim c.match-get.branch [
       left_more _ _ _ _ _ _ _ _ c.loop-place.invariant
       (descent_here (λ v. v.items) _ _ _ _ _ _ (ap (λ r. r.descents) c.self.view_is) c.deref-descent-items.ensures.value c.loop-place-test.true c.descent-item.is c.deref.ensures.value)
       (with_round _ _ _ _ _ (c.deref-in-loop-place.ensures.value ∙ ap (λ r. r.rounds) c.self.view_is) w.in-Some.ensures.lookup.3.0 w.in-Some.ensures.lookup.1 w.entries.ensures)
-      (ap (λ v. v.items) w.all-is ∙ pushed _ _ _ _ _ _ w.entries.result.now (ap (λ r. r.names) c.self.view_is) c.in_ok-push_named.ensures w.in_ok-push_entries.ensures)
+      (ap (λ v. v.items) w.all-is ∙ pushed _ _ _ _ _ _ w.entries.result.now (ap (λ r. r.names) c.self.view_is) c.in_ok-push_named.ensures.named w.in_ok-push_entries.ensures)
   | in_default w ↦
       left_more _ _ _ _ _ _ _ _ c.loop-place.invariant
       (descent_here (λ v. v.items) _ _ _ _ _ _ (ap (λ r. r.descents) c.self.view_is) c.deref-descent-items.ensures.value c.loop-place-test.true c.descent-item.is c.deref.ensures.value)
       (without_round _ _ _ (c.deref-in-loop-place.ensures.value ∙ ap (λ r. r.rounds) c.self.view_is) w.in_default.ensures.lookup.3)
-      (ap (λ v. v.items) w.all-is ∙ pushed_none _ _ _ _ _ (ap (λ r. r.names) c.self.view_is) c.in_ok-push_named.ensures)
+      (ap (λ v. v.items) w.all-is ∙ pushed_none _ _ _ _ _ (ap (λ r. r.names) c.self.view_is) c.in_ok-push_named.ensures.named)
 ]

@@ -11,9 +11,10 @@ use Rattle.board_rule.proofs.Keeps.{closes}
 use Rattle.vertex_claims.specs.Passes.{main_knows}
 use Rattle.vertex_claims.specs.declared.board.Board.{Board}
 use Rattle.vertex_claims.specs.declared.chief.Main.{Main}
-use Rattle.vertex_claims.proofs.Ends.{is_end, length-stars_of, numbered_stars}
+use Rattle.vertex_claims.proofs.Ends.{is_end, numbered_stars}
 use Rattle.vertex_claims.proofs.Seats.{is_a_main}
 use Rattle.vertex_claims.proofs.board.Board.close.Goals as goal
+use Rattle.stars.proofs.Placing.{length-stars_of}
 
 -- what the rule says at the end
 at_end : (board : Board) (main : Main) (ws : List ℕ) (xs : List Slot) → AllBack (main_knows main) → Final (Seen (Ruled board.table.shared.key) main.seat.id main.seat.me.0) ws xs → Closes board.table.shared.key (main_knows main) xs
