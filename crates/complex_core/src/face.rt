@@ -139,7 +139,8 @@ impl Face {
     /// The label at this place, from 0.
     pub fn label(&self, place: usize) -> u16
         requires { place < length self.now }
-        ensures { result ≡ slice_index self.now place }
+        ensures label { result ≡ slice_index self.now place }
+        ensures face { IsFace self.now }
     {
         ((self.bits >> (112 - 16 * place)) % 65536) as u16
     }
