@@ -17,3 +17,4 @@ pub mod Combinations
 pub mod Packs
 pub mod Zeros
 pub mod Edits
+pub mod Lanes
