@@ -24,7 +24,8 @@ use Rattle.flip_rules.proofs.Links.{side, side_of, listed-sides, same_lists_is}
 use Rattle.stars.specs.StarViews.{VertexStar, IsStar}
 use Rattle.stars.specs.Candidates.{flip_of, opposite, is_candidate, faces_at, candidate_faces, IsListOf}
 use Rattle.stars.proofs.Gathered.{apart, has-less, length_less, sorted_less, sorted_opposite}
-use Rattle.stars.proofs.Listing.{Stands, stands, each_listed}
+use Rattle.complex_core.proofs.SetLists.{of_kind}
+use Rattle.stars.proofs.Listing.{Stands, stands}
 use Rattle.anneal_plan.specs.Proposals.{inner, chosen}
 use Rattle.anneal_plan.specs.Listed.{IsListed, TellsTwo}
 use Rattle.anneal_plan.proofs.Choosing.{slice_get-map, get_none}
@@ -160,7 +161,7 @@ told_by_two s a o h l t = by_rows (over s.rows a) refl t
         ∙ one_only r (side a (opposite s.rows a) labels.second) (ap (λ fs. listed fs (side a (opposite s.rows a) labels.second)) (sym e) ∙ there s a h l labels.second labels.has_second)))
     by_rows (r ∷ q ∷ rest) e u =
         let own : listed s.rows r ≡ true = first_so (listed s.rows r) (holds r a) (sym (listed-filter (λ g. holds g a) s.rows r) ∙ ap (λ fs. listed fs r) e ∙ or_left (pointwise nat_eq r r) (listed (q ∷ rest) r) (same_set_itself r)) in
-        let rises : IsStrictlySortedBy nat_cmp r = above_tail nat_cmp 0 r (each_listed (IsFacet s.dim) s.rows r h.pure own).face.rising in
+        let rises : IsStrictlySortedBy nat_cmp r = above_tail nat_cmp 0 r (of_kind (IsFacet s.dim) s.rows r h.pure own).face.rising in
         let tells : less (union r q) a ≡ opposite s.rows a = two_tell s.rows a r q rest rises e (linked s a h l) in
         by_some r q o (fits r q rises tells) tells u
 

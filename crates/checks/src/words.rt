@@ -43,7 +43,7 @@ fn proposes_by_phase_words_and_turn(rt: HostRuntime) -> Result<(), Fail> {
     for (phase, word, turn, a, b) in rows {
         assert!(rt; turn <= 3);
         let flip = proposal(star, phase, &[word; 8], turn, &[7, 8]).unwrap_or_default();
-        assert!(rt; flip.a.labels() == a && flip.b.labels() == b);
+        assert!(rt; flip.a.labels().as_slice() == a && flip.b.labels().as_slice() == b);
     }
     Ok(())
 }

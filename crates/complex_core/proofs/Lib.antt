@@ -20,3 +20,4 @@ pub mod Zeros
 pub mod Edits
 pub mod Members
 pub mod SetLists
+pub mod Lanes

@@ -1,5 +1,5 @@
 -- Labels packed into one number: what the number says of them.
-use Rattle.std.proofs.Common.{◌≡◌, ℕ, zero, suc, ◌+◌, ◌-◌, ◌*◌, ◌/◌, ◌%◌, ◌^◌, ◌<◌, ◌≤◌, inl, inr, get_or, Bool, true, false, cond, nat_eq, ◌||◌, List, [], ◌∷◌, ◌++◌, length, take, replicate, sym, ◌∙◌, ap, refl, subst, arith, length-append}
+use Rattle.std.proofs.Common.{◌≡◌, ℕ, zero, suc, ◌+◌, ◌-◌, ◌*◌, ◌/◌, ◌%◌, ◌^◌, ◌<◌, ◌≤◌, inl, inr, get_or, Bool, true, false, cond, nat_eq, List, [], ◌∷◌, ◌++◌, length, take, replicate, sym, ◌∙◌, ap, refl, subst, arith, length-append}
 use Rattle.std.proofs.lemmas.Nat.{mul-add-lt, div-mul-add, mod-mul-add, mod_below, div_below, pow-add, pow_pos, shl_whole}
 use Rattle.std.proofs.Math.Nat.{mul-le-mul_right, mod-eq_of_lt, mul-add-div_right, mul-add-mod_self_right, div-eq_of_lt}
 use Rattle.std.proofs.lemmas.Bool.Decides.{nat_tests}
@@ -8,7 +8,7 @@ use Rattle.std.specs.Ordering.{nat_cmp, ordering_then, is_eq}
 use Rattle.std.specs.declared.cmp.Ordering.{Ordering}
 use Rattle.std.specs.Cmp.{unsigned_ties}
 use Rattle.std.specs.Cmp.Lexicographic.{slice_cmp, pointwise, texts_ties}
-use Rattle.complex_core.specs.Labels.{IsFace, has, padded}
+use Rattle.complex_core.specs.Labels.{IsFace, padded}
 use Rattle.complex_core.specs.Packed.{weight, pack, unpack, IsPacked}
 use Rattle.complex_core.specs.Packing.{weight_next, weight_pos, pack_unpack}
 use Rattle.complex_core.proofs.Sets.{Above, above_head}
@@ -222,17 +222,6 @@ padded_packed bits xs h e =
     let last : bits % 65536 ≡ get_or xs 7 0 = ap (λ b. b % 65536) (omega arith) ∙ at 0 7 refl in
     let few : length xs ≤ 8 = omega (arith, h.face.few, ap length e) in
     (λ j. first_packed bits xs h e j ∷ at 96 1 refl j ∷ at 80 2 refl j ∷ at 64 3 refl j ∷ at 48 4 refl j ∷ at 32 5 refl j ∷ at 16 6 refl j ∷ last j ∷ []) ∙ each_place xs few
-
--- zeros behind the labels are none of them
-none_zero : (n m x : ℕ) → 0 < x → has (take n (replicate m 0)) x ≡ false
-none_zero zero m x pos = refl
-none_zero (suc n) zero x pos = refl
-none_zero (suc n) (suc m) x pos = let t : nat_eq 0 x ≡ false = grind (arith, nat_tests) in ap (λ b. b || has (take n (replicate m 0)) x) t ∙ none_zero n m x pos
-
-pub has_padded : (n m : ℕ) (xs : List ℕ) (x : ℕ) → length xs ≤ n → 0 < x → has (take n (xs ++ replicate m 0)) x ≡ has xs x
-has_padded n m [] x few pos = none_zero n m x pos
-has_padded zero m (y ∷ ys) x few pos = absurd (omega (arith, few))
-has_padded (suc n) m (y ∷ ys) x few pos = ap (λ b. nat_eq y x || b) (has_padded n m ys x (omega arith) pos)
 
 pub front_padded : (n m : ℕ) (xs : List ℕ) → length xs ≤ n → take (length xs) (take n (xs ++ replicate m 0)) ≡ xs
 front_padded n m [] few = refl

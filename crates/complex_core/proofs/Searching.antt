@@ -13,7 +13,7 @@ use Rattle.complex_core.specs.Rising.{put, rising}
 use Rattle.std.proofs.lemmas.List.Folds.{list_any-append}
 use Rattle.complex_core.proofs.Sets.{Above, above_head, above_tail, among, among-put, among-rising, sorted_put, sorted_rising, greater_less, rising_is, put_there_same}
 
-to_end : (a b : Bool) → (a || b) ≡ (b || (a || false))
+pub to_end : (a b : Bool) → (a || b) ≡ (b || (a || false))
 to_end true true = refl
 to_end true false = refl
 to_end false true = refl

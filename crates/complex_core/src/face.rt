@@ -15,6 +15,7 @@ use crate::Labels;
 use std::cmp::Ordering;
 use std::hash::{Hash, Hasher};
 use std::marker::Model;
+use std::simd::prelude::*;
 
 /// A set of up to eight labels from 1, in one number of 16 bytes. Faces are compared label by
 /// label, and a proper prefix is less.
@@ -120,8 +121,8 @@ impl Face {
     pub fn contains(&self, label: u16) -> bool
         ensures { result ≡ has self.now label }
     {
-        let places = self.padded();
-        label != 0 && places.contains(&label)
+        let lanes = self.lanes();
+        label != 0 && lanes.simd_eq(u16x8::splat(label)).any()
     }
 
     /// Whether each label of the other face is in it.
@@ -139,9 +140,21 @@ impl Face {
     /// The label at this place, from 0.
     pub fn label(&self, place: usize) -> u16
         requires { place < length self.now }
-        ensures { result ≡ slice_index self.now place }
+        ensures label { result ≡ slice_index self.now place }
+        ensures face { IsFace self.now }
     {
         ((self.bits >> (112 - 16 * place)) % 65536) as u16
+    }
+
+    // The labels and the zeros behind them as lanes, the last place first.
+    fn lanes(&self) -> u16x8
+        ensures eight { length result ≡ 8 }
+        ensures lanes { (x : ℕ) → 0 < x → has result x ≡ has self.now x }
+        ensures face { IsFace self.now }
+    {
+        let low = (self.bits % (1 << 64)) as u64;
+        let high = (self.bits >> 64) as u64;
+        u16x8::from_le_bytes(u64x2::from_array([low, high]).to_le_bytes())
     }
 
     // The labels, and zeros behind them.

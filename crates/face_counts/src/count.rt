@@ -34,7 +34,7 @@ fn count_sets(
 /// The numbers of faces with 1, 2, .., d + 1 labels: f_0, f_1, .., f_d. A face that several facets
 /// contain counts once.
 ///
-/// Each is below 2^59, since the faces of one size fit into memory at 18 bytes each.
+/// Each is below 2^59, since the faces of one size fit into memory at 16 bytes each.
 pub fn counts(alloc: Global, complex: &Complex) -> Result<Vec<u64>, AllocError>
     ensures counts { IfOk result (λ v. v.items ≡ numbers (faces complex.now.facets) (complex.now.dim + 1)) }
     ensures small { IfOk result (λ v. EachIndex v.items (λ j. slice_index v.items j < 2 ^ 59)) }

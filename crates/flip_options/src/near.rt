@@ -49,7 +49,7 @@ pub(crate) fn labels_over(rows: &[Face], set: &Face, most: usize) -> Option<Face
     ensures labels { MatchOption result (TooMany rows.now set.now most) (IsJoin rows.now set.now) }
 {
     let mut all = *set;
-    let _labels = set.len();
+    let _count = set.len();
     for row in rows {
         if row.holds(set) {
             match all.union(row) {

@@ -53,10 +53,7 @@ pub(crate) fn add_facet(stars: &mut Vec<Star>, facet: &Face) -> Result<(), Alloc
 fn is_begun_by(row: &Face, label: u16) -> bool
     ensures { result ≡ begins row.now label }
 {
-    match row.labels() {
-        [first, ..] => *first == label,
-        [] => false,
-    }
+    !row.is_empty() && row.label(0) == label
 }
 
 // Adds the rows that begin with the star's vertex: over all stars these are each facet once, in order.

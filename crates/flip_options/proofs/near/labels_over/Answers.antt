@@ -4,7 +4,7 @@ use Rattle.flip_options.proofs.near.labels_over.Goals as goal
 use Rattle.flip_options.proofs.near.labels_over.Goals.{then-holds+in-Some+else-len-most, else-holds}
 
 pub loop-row-init : goal.loop-row-init
-loop-row-init c = so_far_start _ _ c.labels-labels.ensures.face
+loop-row-init c = so_far_start _ _ c.len-count.ensures.face
 
 pub returns-in-None : goal.returns-in-None
 returns-in-None c = record { labels = none_joined _ _ _ _ _ _ c.loop-row.invariant c.loop-row-test.true c.row-item.is (sym c.holds.ensures ∙ c.if-holds.true) c.requires c.in-None.ensures }

@@ -1,4 +1,5 @@
-use Rattle.std.proofs.Common.{◌+◌, sym, ◌∙◌, subst}
+use Rattle.std.proofs.Common.{◌+◌, sym, ◌∙◌, ap, refl, subst}
+use Rattle.complex_core.specs.Labels.{without}
 use Rattle.flip_options.specs.Tables.{Table, Refreshed}
 use Rattle.flip_options.proofs.Looking.{left_next, left_skip, left_end, IsLeft}
 use Rattle.flip_options.proofs.refresh.refresh_partners.Goals as goal
@@ -13,4 +14,4 @@ loop-facet-preserved c =
     ]
 
 pub returns : goal.returns
-returns c = left_end _ _ _ _ _ _ _ _ c.loop-facet.invariant c.loop-facet-test.false c.labels.ensures.labels c.without-rest.ensures c.requires.some c.labels.ensures.face c.near-facet-items.ensures.over
+returns c = left_end _ _ _ _ _ _ _ _ c.loop-facet.invariant c.loop-facet-test.false refl (c.without-rest.ensures ∙ ap (without c.args.other.now) c.label.ensures.label) c.requires.some c.label.ensures.face c.near-facet-items.ensures.over

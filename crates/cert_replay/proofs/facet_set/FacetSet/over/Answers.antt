@@ -1,4 +1,4 @@
-use Rattle.std.proofs.Common.{◌≡◌, List, ℕ, subst, sym, true, ap, length, ◌-◌, option_copied}
+use Rattle.std.proofs.Common.{◌≡◌, List, ℕ, subst, sym, true, ap, length, ◌-◌, option_copied, ◌∙◌}
 use Rattle.std.specs.List.Sorted.{IsStrictlySortedBy}
 use Rattle.complex_core.specs.Labels.{has, face_cmp}
 use Rattle.complex_core.specs.Spaces.{over}
@@ -11,7 +11,7 @@ pub returns-in-Some-clause-over : goal.returns-in-Some-clause-over
 returns-in-Some-clause-over c = λ _.
     let x = c.in-Some.label.now in
     let rows = c.self.inside.rows in
-    let t : has c.args.set.now x ≡ true = last_has c.args.set.now c.labels.result.now (length c.labels.result.now - 1) x c.last.result c.labels.ensures.labels c.last.ensures.value (ap option_copied c.in-Some.is) in
+    let t : has c.args.set.now x ≡ true = last_has c.args.set.now c.deref.result.now (length c.deref.result.now - 1) x c.last.result (c.deref.ensures ∙ c.labels.ensures.labels) c.last.ensures.value (ap option_copied c.in-Some.is) in
     if_ok_along (λ v. v.items) (over (facets_at x rows) c.args.set.now) (over c.args.self.now.facets c.args.set.now) c.rows_over.result (over_told c.args.self.now c.self.inside.dim rows x c.args.set.now c.self.view_is c.self.invariant.0 c.rows_over.ensures.ordered t) c.rows_over.ensures.over
 
 pub returns-in-Some-clause-rising : goal.returns-in-Some-clause-rising

@@ -13,7 +13,7 @@ flip_here-requires-clause-stars c =
 pub flip_here-requires-clause-held : goal.flip_here-requires-clause-held
 flip_here-requires-clause-held c =
     let items : c.deref_mut.result.now ≡ all_stars c.args.self.now = c.deref_mut.ensures.value ∙ items_are c.args.self.now c.self.inside.dim c.self.inside.stars.items c.self.view_is c.self.invariant.1 in
-    shown_labels c.args.self.now c.args.flip.now c.deref_mut.result.now items c.labels-first.ensures.face c.labels-second.ensures.face c.requires.places
+    shown_labels c.args.self.now c.args.flip.now c.deref_mut.result.now items c.len-first.ensures.face c.len-second.ensures.face c.requires.places
 
 pub invariant_of-self : goal.invariant_of-self
 invariant_of-self c =
