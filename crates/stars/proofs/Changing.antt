@@ -16,7 +16,9 @@ use Rattle.complex_core.proofs.Sorting.{each_append, each_filter}
 use Rattle.complex_core.proofs.Laws.{above_not, nat_eq_is, or_left}
 use Rattle.star_laws.specs.Stars.{star}
 use Rattle.stars.specs.StarViews.{VertexStar, IsStar, vertices}
-use Rattle.stars.specs.Changes.{star_changed, stars_changed, CanChange}
+use Rattle.stars.specs.Changes.{star_changed, stars_changed, CanChange, IsWithin}
+use Rattle.stars.specs.Lists.{ChangedWithin}
+use Rattle.stars.proofs.Staying.{changed_within}
 use Rattle.stars.proofs.Finding.{one_place, each_at}
 
 abbrev pub emptied : VertexStar → VertexStar
@@ -85,11 +87,18 @@ star_held (f ∷ fs) x =
       | false ↦ λ _. star_held fs x
     ] refl
 
+-- the star as its rows become
+pub changed_here : (s v w : VertexStar) (x : ℕ) (rows out more : List (List ℕ)) → s.vertex ≡ x → v ≡ emptied s → w ≡ v → rows ≡ rising face_cmp (staying s.rows out ++ star more x) → star_changed out more s ≡ record w { rows = rows }
+changed_here s v w x rows out more ex ev ew er = (λ j. record s { rows = rising face_cmp (staying s.rows out ++ star more (ex j)) }) ∙ (λ j. record (sym (ew ∙ ev) j) { rows = sym er j })
+
+-- it changed within these labels
+pub changed_so : (s v w : VertexStar) (x : ℕ) (labels : List ℕ) (rows out more : List (List ℕ)) → IsStar s → IsWithin labels out more → s.vertex ≡ x → v ≡ emptied s → w ≡ v → rows ≡ rising face_cmp (staying s.rows out ++ star more x) → ChangedWithin labels s (record w { rows = rows })
+changed_so s v w x labels rows out more h within ex ev ew er = subst (ChangedWithin labels s) (changed_here s v w x rows out more ex ev ew er) (changed_within s labels out more h within.gone within.come)
+
 -- what the rows become is a star
 pub changed_is_star : (s v w : VertexStar) (x : ℕ) (rows out more : List (List ℕ)) → IsStar s → s.vertex ≡ x → v ≡ emptied s → w ≡ v → AllByRecursion (IsFacet s.dim) more → rows ≡ rising face_cmp (staying s.rows out ++ star more x) → IsStar (record w { rows = rows })
 changed_is_star s v w x rows out more h ex ev ew pure er =
-    let e : record s { rows = rising face_cmp (staying s.rows out ++ star more s.vertex) } ≡ record w { rows = rows } =
-    (λ j. record s { rows = rising face_cmp (staying s.rows out ++ star more (ex j)) }) ∙ (λ j. record (sym (ew ∙ ev) j) { rows = sym er j }) in
+    let e : star_changed out more s ≡ record w { rows = rows } = changed_here s v w x rows out more ex ev ew er in
     let P : VertexStar → Type 0 = λ t. IsStar t in
     subst P e (record {
       vertex = h.vertex;

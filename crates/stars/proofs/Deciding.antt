@@ -1,12 +1,11 @@
 -- Which subsets of some labels are candidates, as a program decides it.
-use Rattle.std.proofs.Common.{◌≡◌, inl, inr, ℕ, zero, suc, ◌+◌, ◌-◌, ◌≤◌, Bool, true, false, cond, nat_eq, if◌then◌else◌, ◌&&◌, Option, Some, None, List, [], ◌∷◌, ◌++◌, length, map, filter, take, sym, ◌∙◌, ap, refl, arith, eq-eqb}
+use Rattle.std.proofs.Common.{◌≡◌, ℕ, zero, suc, ◌+◌, ◌-◌, ◌≤◌, Bool, true, false, cond, if◌then◌else◌, ◌&&◌, Option, Some, None, List, [], ◌∷◌, ◌++◌, length, map, filter, take, ◌∙◌, ap, refl, eq-eqb}
 use Rattle.std.specs.List.{AllByRecursion}
 use Rattle.std.specs.Option.{is_some}
 use Rattle.std.specs.Result.{is_ok}
+use Rattle.std.proofs.lemmas.List.{take_all}
 use Rattle.complex_core.specs.Labels.{has}
 use Rattle.complex_core.specs.Subsets.{subsets_of}
-use Rattle.complex_core.proofs.Laws.{nat_eq_is}
-use Rattle.complex_core.proofs.SubsetLists.{two}
 use Rattle.flip_rules.specs.Flips.{why_near}
 use Rattle.flip_rules.specs.declared.flip.Flip.{Flip}
 use Rattle.stars.specs.StarViews.{VertexStar, IsStar}
@@ -25,25 +24,6 @@ told s f d rows o r h some small ed er e is =
     is ∙ ap is_some (e ∙ (λ j. flip_at (ed j) (er j) f))
     ∙ some_if (is_ok (why_near s.dim s.rows [] f (opposite s.rows f))) (flip_of f (opposite s.rows f))
     ∙ judged s.dim s.rows f h.rising some small
-
-pub belongs_told : (s : VertexStar) (i : ℕ) (f : List ℕ) (r t : Bool) → 1 ≤ i → i ≤ s.dim → length f ≡ s.dim + 1 - i → t ≡ true → t ≡ has f s.vertex → r ≡ is_candidate s.rows (s.dim + 2 - length f) f → r ≡ belongs s i f
-belongs_told s i f r t low high size there e is =
-    let n : s.dim + 2 - length f ≡ i + 1 = omega (arith, size, low, high) in
-    is ∙ ap (λ m. is_candidate s.rows m f) n
-    ∙ sym ((λ j. eq-eqb (length f) (s.dim + 1 - i) size j && ((sym e ∙ there) j && is_candidate s.rows (i + 1) f)))
-
-pub other_size : (s : VertexStar) (i : ℕ) (f : List ℕ) → (length f ≡ s.dim + 1 - i → ⊥) → false ≡ belongs s i f
-other_size s i f n = elim (two (nat_eq (length f) (s.dim + 1 - i))) [
-  | inl e ↦ absurd (n (nat_eq_is (length f) (s.dim + 1 - i) e))
-  | inr e ↦ sym (ap (λ c. c && (has f s.vertex && is_candidate s.rows (i + 1) f)) e)
-]
-
-pub no_vertex : (s : VertexStar) (i : ℕ) (f : List ℕ) → has f s.vertex ≡ false → false ≡ belongs s i f
-no_vertex s i f e = sym (ap (λ c. nat_eq (length f) (s.dim + 1 - i) && (c && is_candidate s.rows (i + 1) f)) e ∙ none (nat_eq (length f) (s.dim + 1 - i)))
-  where
-    none : (c : Bool) → (c && false) ≡ false
-    none true = refl
-    none false = refl
 
 -- ---- all subsets
 
@@ -74,12 +54,6 @@ pub found_within : (s : VertexStar) (i n : ℕ) (labels : List ℕ) → n ≡ s.
 unfolding candidates_within
 found_within s i n labels e = ap (λ m. filter (belongs s i) (subsets_of m labels)) e ∙ two_tests s i (subsets_of (s.dim + 1 - i) labels) (all_sized (s.dim + 1 - i) labels)
 
-take_past : (k : ℕ) (xs : List (List ℕ)) → length xs ≤ k → take k xs ≡ xs
-take_past zero [] l = refl
-take_past zero (x ∷ xs) l = absurd (omega (arith, l))
-take_past (suc k) [] l = refl
-take_past (suc k) (x ∷ xs) l = ap (λ ys. x ∷ ys) (take_past k xs (let g : length xs ≤ k = omega (arith, l) in g))
-
-pub added : (s : VertexStar) (i n k : ℕ) (labels : List ℕ) (old made items all : List (List ℕ)) → length items ≤ k → made ≡ old ++ filter (belongs s i) (take k items) → items ≡ all → all ≡ subsets_of n labels → n ≡ s.dim + 1 - i → made ≡ old ++ candidates_within s i labels
-added s i n k labels old made items all l e same is size =
-    e ∙ ap (λ fs. old ++ filter (belongs s i) fs) (take_past k items l ∙ same ∙ is) ∙ ap (λ fs. old ++ fs) (found_within s i n labels size)
+pub all_found : (s : VertexStar) (i n k : ℕ) (labels : List ℕ) (made items all : List (List ℕ)) → length items ≤ k → made ≡ filter (belongs s i) (take k items) → items ≡ all → all ≡ subsets_of n labels → n ≡ s.dim + 1 - i → made ≡ candidates_within s i labels
+all_found s i n k labels made items all l e same is size =
+    e ∙ ap (filter (belongs s i)) (take_all k items l ∙ same ∙ is) ∙ found_within s i n labels size

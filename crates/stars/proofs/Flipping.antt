@@ -1,5 +1,5 @@
 -- A flip on the stars of its own labels.
-use Rattle.std.proofs.Common.{◌≡◌, ℕ, ◌≤◌, Bool, true, false, cond, not, if◌then◌else◌, ◌||◌, List, [], ◌∷◌, ◌++◌, length, map, Ok, sym, ◌∙◌, ap, refl, subst, arith}
+use Rattle.std.proofs.Common.{◌≡◌, ℕ, ◌≤◌, Bool, true, false, cond, not, nat_eq, if◌then◌else◌, ◌||◌, List, [], ◌∷◌, ◌++◌, length, map, Ok, sym, ◌∙◌, ap, refl, subst, arith}
 use Rattle.std.specs.List.{filter, AllByRecursion}
 use Rattle.std.proofs.lemmas.List.{length-map}
 use Rattle.complex_core.specs.Labels.{IsFace, IsRising, has, holds, union, without, face_cmp}
@@ -7,7 +7,8 @@ use Rattle.std.specs.Ordering.{nat_cmp}
 use Rattle.complex_core.specs.Rising.{rising}
 use Rattle.complex_core.specs.Spaces.{Space, IsComplex, IsFacet, over, beside, staying, is_facet}
 use Rattle.complex_core.proofs.Sets.{above_tail}
-use Rattle.complex_core.proofs.Laws.{has-union, holds_each, holds_has, length_union_le}
+use Rattle.std.specs.Cmp.{first_so}
+use Rattle.complex_core.proofs.Laws.{has-union, has-without, holds_each, holds_has, length_union_le}
 use Rattle.flip_rules.specs.Flips.{why, flipped, sides, Legal, CanPut, OfFaces}
 use Rattle.flip_rules.proofs.Legal.{legal}
 use Rattle.flip_rules.proofs.Links.{staying_sides}
@@ -17,7 +18,7 @@ use Rattle.star_laws.specs.Stars.{star, star_after}
 use Rattle.star_laws.proofs.FlipStars.{star_flipped as star_seen, other_star}
 use Rattle.stars.specs.StarViews.{VertexStar, vertices, IsStarOf, AreStarsOf, HasLabels}
 use Rattle.stars.specs.FlipsHere.{star_flipped, stars_flipped}
-use Rattle.stars.specs.Changes.{star_changed, stars_changed, CanChange}
+use Rattle.stars.specs.Changes.{star_changed, stars_changed, CanChange, AreWithin, IsWithin}
 
 -- two tests in either order
 filter_swap : (p q : List ℕ → Bool) (fs : List (List ℕ)) → filter p (filter q fs) ≡ filter q (filter p fs)
@@ -75,6 +76,41 @@ can_change k near f labels more h held put face el em =
       few = omega (arith, put.few, length-map f.a (λ x. union f.b (without f.a x)));
       pure = all_dims near k (sides f.b f.a) h.each put.pure;
     })
+
+-- what it takes out and puts in lies within its labels
+in_either : (p q r : Bool) → (p || r) ≡ true → (r ≡ true → q ≡ true) → (p || q) ≡ true
+in_either true q r t g = refl
+in_either false q r t g = g t
+
+either_way : (p q : Bool) → (p || q) ≡ true → (q || p) ≡ true
+either_way true true t = refl
+either_way true false t = refl
+either_way false q t = let e : q ≡ true = t in ap (λ c. c || false) e
+
+side_within : (a b : List ℕ) (x : ℕ) → holds (union a b) (union a (without b x)) ≡ true
+side_within a b x = holds_each (union a b) (union a (without b x)) (λ z u.
+    has-union a b z
+    ∙ in_either (has a z) (has b z) (has (without b x) z) (sym (has-union a (without b x) z) ∙ u) (λ v. first_so (has b z) (not (nat_eq z x)) (sym (has-without b x z) ∙ v)))
+
+turned_within : (a b f : List ℕ) → holds (union b a) f ≡ true → holds (union a b) f ≡ true
+turned_within a b f h = holds_each (union a b) f (λ z u. has-union a b z ∙ either_way (has b z) (has a z) (sym (has-union b a z) ∙ holds_has (union b a) f z h u))
+
+sides_within : (a b xs : List ℕ) → AreWithin (union a b) (map (λ x. union a (without b x)) xs)
+sides_within a b [] = tt
+sides_within a b (x ∷ xs) = (side_within a b x, sides_within a b xs)
+
+all_turned : (a b : List ℕ) (fs : List (List ℕ)) → AreWithin (union b a) fs → AreWithin (union a b) fs
+all_turned a b [] h = tt
+all_turned a b (f ∷ fs) h = (turned_within a b f h.0, all_turned a b fs h.1)
+
+pub change_within : (a b labels : List ℕ) (out more : List (List ℕ)) → IsFace labels → labels ≡ union a b → out ≡ sides a b → more ≡ sides b a → IsWithin labels out more
+change_within a b labels out more face el eo em =
+    let P : List ℕ → List (List ℕ) → Type 0 = λ ls fs. AreWithin ls fs in
+    record {
+      rising = above_tail nat_cmp 0 labels face.rising;
+      gone = subst (λ ls. P ls out) (sym el) (subst (P (union a b)) (sym eo) (sides_within a b b));
+      come = subst (λ ls. P ls more) (sym el) (subst (P (union a b)) (sym em) (all_turned a b (sides b a) (sides_within b a a)));
+    }
 
 -- ---- what it makes
 

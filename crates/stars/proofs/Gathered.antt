@@ -82,8 +82,8 @@ row_gathered labels rows a row i l e h =
     ap (λ rs. gathered labels rs a) (drop_row rows i row l ∙ ap (λ r. r ∷ drop (i + 1) rows) (sym e))
     ∙ ap (λ b. cond b (gathered (union labels row) (drop (i + 1) rows) a) (gathered labels (drop (i + 1) rows) a)) h
 
-pub too_many : (rows more : List (List ℕ)) (a labels : List ℕ) → gathered [] rows a ≡ gathered labels more a → (length labels ≤ 8 → ⊥) → length (used (over rows a)) ≤ 8 → ⊥
-too_many rows more a labels e n h = n (omega (arith, more_gathered labels more a, ap length (sym e ∙ gathered_all rows a), h))
+pub too_many : (rows more : List (List ℕ)) (a labels : List ℕ) (most : ℕ) → gathered [] rows a ≡ gathered labels more a → (length labels ≤ most → ⊥) → length (used (over rows a)) ≤ most → ⊥
+too_many rows more a labels most e n h = n (omega (arith, more_gathered labels more a, ap length (sym e ∙ gathered_all rows a), h))
 
 -- ---- the labels that are left beside the face
 
@@ -179,16 +179,16 @@ no_shape : (s h l : Bool) → s ≡ false → is_ok (verdict s h l false) ≡ fa
 no_shape true h l e = cc
 no_shape false h l e = refl
 
-pub flip_too_large : (d : ℕ) (rows : List (List ℕ)) (a : List ℕ) (r : Option (List ℕ)) (o : Option Flip) → d ≤ 6 → r ≡ None → SomeIff r (length (used (over rows a)) ≤ 8) (used (over rows a)) → o ≡ None → o ≡ flip_at d rows a
-flip_too_large d rows a r o low e s none =
+pub flip_too_large : (d : ℕ) (rows : List (List ℕ)) (a : List ℕ) (r : Option (List ℕ)) (o : Option Flip) → r ≡ None → SomeIff r (length (used (over rows a)) ≤ d + 2) (used (over rows a)) → o ≡ None → o ≡ flip_at d rows a
+flip_too_large d rows a r o e s none =
     none ∙ none_by (is_ok (judgement d rows a (opposite rows a))) (flip_of a (opposite rows a)) (no_shape (has_shape d a (opposite rows a)) (is_held rows a) (link_is rows a (opposite rows a)) unshaped)
   where
-    many : length (used (over rows a)) ≤ 8 → ⊥
-    many = let P : Option (List ℕ) → Type 0 = λ q. SomeIff q (length (used (over rows a)) ≤ 8) (used (over rows a)) in subst P e s
+    many : length (used (over rows a)) ≤ d + 2 → ⊥
+    many = let P : Option (List ℕ) → Type 0 = λ q. SomeIff q (length (used (over rows a)) ≤ d + 2) (used (over rows a)) in subst P e s
 
     unshaped : has_shape d a (opposite rows a) ≡ false
     unshaped = elim (two (has_shape d a (opposite rows a))) [
-      | inl t ↦ absurd (many (omega (arith, length_less (used (over rows a)) a (sorted_rising nat_cmp_total (all_of (over rows a))), (shaped d a (opposite rows a) t).sizes, low)))
+      | inl t ↦ absurd (many (omega (arith, length_less (used (over rows a)) a (sorted_rising nat_cmp_total (all_of (over rows a))), (shaped d a (opposite rows a) t).sizes)))
       | inr f ↦ f
     ]
 
@@ -197,8 +197,8 @@ flip_too_large d rows a r o low e s none =
 pub none_of : {P : Type 0} (v : List ℕ) (r : Option (List ℕ)) → r ≡ None → (P → ⊥) → SomeIff r P v
 none_of {P} v r e h = let Q : Option (List ℕ) → Type 0 = λ o. SomeIff o P v in subst Q (sym e) h
 
-pub gathered_end : (rows : List (List ℕ)) (a labels : List ℕ) (i : ℕ) → length rows ≤ i → gathered [] rows a ≡ gathered labels (drop i rows) a → length labels ≤ 8 → (length (used (over rows a)) ≤ 8) × (labels ≡ used (over rows a))
-gathered_end rows a labels i l e few =
+pub gathered_end : (rows : List (List ℕ)) (a labels : List ℕ) (i most : ℕ) → length rows ≤ i → gathered [] rows a ≡ gathered labels (drop i rows) a → length labels ≤ most → (length (used (over rows a)) ≤ most) × (labels ≡ used (over rows a))
+gathered_end rows a labels i most l e few =
     let is : labels ≡ used (over rows a) = sym (e ∙ ap (λ rs. gathered labels rs a) (drop_all i rows l)) ∙ gathered_all rows a in
-    let small : length (used (over rows a)) ≤ 8 = omega (arith, ap length is, few) in
+    let small : length (used (over rows a)) ≤ most = omega (arith, ap length is, few) in
     (small, is)

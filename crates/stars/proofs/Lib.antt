@@ -13,3 +13,4 @@ pub mod Gathered
 pub mod Listing
 pub mod Staying
 pub mod Deciding
+pub mod Keeping

@@ -21,6 +21,12 @@ stars_changed near labels out more = map (λ s. if has labels s.vertex then star
 abbrev pub AreWithin : List ℕ → List (List ℕ) → Type 0
 AreWithin labels sets = AllByRecursion (λ f. holds labels f ≡ true) sets
 
+-- what is taken out and put in has no labels but these, which rise
+pub record IsWithin (labels : List ℕ) (out more : List (List ℕ)) : Type 0 where
+  pub rising : IsStrictlySortedBy nat_cmp labels
+  pub gone : AreWithin labels out
+  pub come : AreWithin labels more
+
 -- the stars of these labels are held, and the sets that are put in are facets of their dimension
 pub record CanChange (near : List VertexStar) (labels : List ℕ) (more : List (List ℕ)) : Type 0 where
   pub rising : IsRising (vertices near)

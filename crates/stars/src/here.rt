@@ -110,7 +110,13 @@ pub fn flip_here(near: &mut [Star], flip: &Flip) -> Result<(), FlipFault>
     };
     let out = Sides::of(&flip.a, &flip.b);
     let more = Sides::of(&flip.b, &flip.a);
-    match change_stars(near, &labels.labels(), out.as_slice(), more.as_slice()) {
+    match change_stars(
+        near,
+        &labels.labels(),
+        &labels,
+        out.as_slice(),
+        more.as_slice(),
+    ) {
         Ok(()) => Ok(()),
         Err(_) => Err(FlipFault::Memory),
     }

@@ -1,10 +1,15 @@
 // Lists of candidates, which a star keeps.
-ghost use Rattle.std.specs.Prelude.{◌≡◌, IfOk, IfSome};
-ghost use Rattle.stars.specs.StarViews.{VertexStar};
-ghost use Rattle.stars.specs.Candidates.{IsListOf};
-ghost use Rattle.stars.specs.Lists.{AreLists};
+ghost use Rattle.std.specs.Prelude.{◌≡◌, ◌+◌, ◌-◌, ◌≤◌, length, IfOk, IfSome, OnOk};
+ghost use Rattle.std.specs.List.Sorted.{IsStrictlySortedBy};
+ghost use Rattle.std.specs.Ordering.{nat_cmp};
+ghost use Rattle.complex_core.specs.Labels.{face_cmp};
+ghost use Rattle.stars.specs.StarViews.{VertexStar, IsStar};
+ghost use Rattle.stars.specs.Candidates.{IsListOf, is_candidate};
+ghost use Rattle.stars.specs.Lists.{AreLists, ChangedWithin, belongs, candidates_within, list_after, not_within};
 
-use complex_core::Face;
+use crate::near::flip_at;
+use crate::star::Star;
+use complex_core::{Face, put_all_in};
 use std::alloc::{AllocError, Global};
 use std::marker::Model;
 
@@ -33,6 +38,99 @@ impl Candidates {
             faces: Vec::from_slice(alloc, &self.faces)?,
         })
     }
+
+    // Exchanges the faces within some labels for those that are candidates of a star now.
+    fn decide(&mut self, star: &Star, labels: &Face) -> Result<(), AllocError>
+        requires low { 1 ≤ self.old.index }
+        requires high { self.old.index ≤ star.now.dim }
+        requires rising { IsStrictlySortedBy face_cmp self.old.faces }
+        ensures star { IsStar star.now }
+        ensures index { self.new.index ≡ self.old.index }
+        ensures faces { OnOk result (self.new.faces ≡ list_after self.old.faces star.now self.old.index labels.now) }
+    {
+        let more = candidates_within(*self.faces.allocator(), star, self.index, labels)?;
+        leave_out(&mut self.faces, labels);
+        self.faces.reserve(more.len())?;
+        put_all_in(&mut self.faces, &more);
+        Ok(())
+    }
+}
+
+// Whether a face of the size of an index is a candidate of it.
+fn is_candidate(star: &Star, face: &Face) -> bool
+    requires some { 1 ≤ length face.now }
+    requires small { length face.now ≤ star.now.dim }
+    ensures { result ≡ is_candidate star.now.rows (star.now.dim + 2 - length face.now) face.now }
+{
+    flip_at(star.dim(), star.rows(), face).is_some()
+}
+
+// Whether a set is a candidate of an index.
+fn belongs(star: &Star, index: u32, face: &Face) -> bool
+    requires low { 1 ≤ index }
+    requires high { index ≤ star.now.dim }
+    ensures { result ≡ belongs star.now index face.now }
+{
+    let size = (star.dim() + 1 - index) as usize;
+    if face.len() != size {
+        return false;
+    }
+    if !face.contains(star.vertex()) {
+        return false;
+    }
+    is_candidate(star, face)
+}
+
+// The subsets of some labels that are candidates of an index.
+fn candidates_within(
+    alloc: Global,
+    star: &Star,
+    index: u32,
+    labels: &Face,
+) -> Result<Vec<Face>, AllocError>
+    requires low { 1 ≤ index }
+    requires high { index ≤ star.now.dim }
+    ensures star { IsStar star.now }
+    ensures all { IfOk result (λ v. v.items ≡ candidates_within star.now index labels.now) }
+{
+    let size = (star.dim() + 1 - index) as usize;
+    let mut all = Vec::new(alloc);
+    let subsets = labels.subsets(alloc, size)?;
+    for face in subsets.as_slice() {
+        if belongs(star, index, face) {
+            all.push(*face)?;
+        }
+    }
+    Ok(all)
+}
+
+// Leaves out the sets that have no label beside some labels.
+fn leave_out(sets: &mut Vec<Face>, labels: &Face)
+    requires { IsStrictlySortedBy face_cmp sets.old.items }
+    ensures items { sets.new.items ≡ not_within labels.now sets.old.items }
+    ensures rising { IsStrictlySortedBy face_cmp sets.new.items }
+{
+    sets.retain(|face| !labels.holds(face));
+}
+
+// The lists of a star that changed within some labels, from those before. There are none where memory
+// is short.
+pub(crate) fn decided_again(
+    mut lists: Vec<Candidates>,
+    star: &Star,
+    labels: &Face,
+) -> Vec<Candidates>
+    requires labels { IsStrictlySortedBy nat_cmp labels.now }
+    requires lists { (old : VertexStar) × IsStar old × AreLists old lists.items × ChangedWithin labels.now old star.now }
+    ensures { AreLists star.now result.items }
+{
+    for place in 0..lists.len() {
+        if lists[place].decide(star, labels).is_err() {
+            lists.clear();
+            return lists;
+        }
+    }
+    lists
 }
 
 // The list of an index, if it is there.

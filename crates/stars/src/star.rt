@@ -1,11 +1,14 @@
 // The star of a vertex.
 ghost use Rattle.std.specs.Prelude.{◌≡◌, ◌<◌, ◌≤◌, ◌==◌, [], length, IfOk, IfSome, OnOk};
 ghost use Rattle.complex_core.specs.Spaces.{over};
-ghost use Rattle.stars.specs.StarViews.{IsStar};
+ghost use Rattle.std.specs.List.Sorted.{IsStrictlySortedBy};
+ghost use Rattle.std.specs.Ordering.{nat_cmp};
+ghost use Rattle.stars.specs.StarViews.{VertexStar, IsStar};
 ghost use Rattle.stars.specs.Building.{with_row};
 ghost use Rattle.stars.specs.Candidates.{IsListOf};
+ghost use Rattle.stars.specs.Lists.{AreLists, ChangedWithin};
 
-use crate::lists::{Candidates, copies_of, find_list};
+use crate::lists::{Candidates, copies_of, decided_again, find_list};
 use crate::over::Over;
 use complex_core::Face;
 use std::alloc::{AllocError, Global};
@@ -19,8 +22,14 @@ pub struct Star {
     vertex: u16,
     dim: u32,
     rows: Vec<Face>,
-    // The candidates of those indices for which they were found since the facets changed.
+    // The candidates of those indices for which they were found and kept.
     lists: Vec<Candidates>,
+}
+
+// What a star is lent without: its facets, and the lists of its candidates.
+pub(crate) struct Lent {
+    pub(crate) rows: Vec<Face>,
+    pub(crate) lists: Vec<Candidates>,
 }
 
 impl Model for Star {
@@ -124,18 +133,33 @@ impl Star {
         Ok(())
     }
 
-    // Takes the facets out of the star, which is left empty.
-    pub(crate) fn lend_rows(&mut self) -> Vec<Face>
-        ensures lent { result.items ≡ self.old.rows }
+    // Takes the facets and the lists out of the star, which is left empty.
+    pub(crate) fn lend_rows(&mut self) -> Lent
+        ensures lent { result.rows.items ≡ self.old.rows }
+        ensures lists { AreLists self.old result.lists.items }
         ensures left { self.new ≡ record self.old { rows = [] } }
         ensures star { IsStar self.old }
     {
-        self.lists.clear();
-        let none = Vec::new(*self.rows.allocator());
-        std::mem::replace(&mut self.rows, none)
+        let alloc = *self.rows.allocator();
+        Lent {
+            rows: std::mem::replace(&mut self.rows, Vec::new(alloc)),
+            lists: std::mem::replace(&mut self.lists, Vec::new(alloc)),
+        }
     }
 
-    // Puts facets in place of those that it has.
+    // Puts facets in place of those that it has, which are changed ones of its own. In the lists that it had
+    // the sets within the labels of the change are decided again.
+    pub(crate) fn put_changed(&mut self, rows: Vec<Face>, lists: Vec<Candidates>, labels: &Face)
+        requires star { IsStar (record self.old { rows = rows.items }) }
+        requires labels { IsStrictlySortedBy nat_cmp labels.now }
+        requires lists { (old : VertexStar) × IsStar old × AreLists old lists.items × ChangedWithin labels.now old (record self.old { rows = rows.items }) }
+        ensures { self.new ≡ record self.old { rows = rows.items } }
+    {
+        self.put_rows(rows);
+        self.lists = decided_again(lists, self, labels);
+    }
+
+    // Puts facets in place of those that it has. It knows no candidates then.
     pub(crate) fn put_rows(&mut self, rows: Vec<Face>)
         requires { IsStar (record self.old { rows = rows.items }) }
         ensures { self.new ≡ record self.old { rows = rows.items } }

@@ -3,7 +3,7 @@ use Rattle.stars.proofs.Gathered.{flip_found, flip_missed, flip_too_large}
 use Rattle.stars.proofs.near.flip_at.Goals as goal
 
 pub returns-in_err-labels : goal.returns-in_err-labels
-returns-in_err-labels c = flip_too_large c.args.dim c.args.rows.now c.args.face.now c.labels_over.result _ c.requires.low (search rules) c.labels_over.ensures (search rules)
+returns-in_err-labels c = flip_too_large c.args.dim c.args.rows.now c.args.face.now c.labels_over.result _ (search rules) c.labels_over.ensures (search rules)
 
 pub returns-in_err-ok : goal.returns-in_err-ok
 returns-in_err-ok c =

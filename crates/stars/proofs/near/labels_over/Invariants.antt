@@ -6,5 +6,5 @@ use Rattle.stars.proofs.near.labels_over.Given as goal
 abbrev pub invariant-loop-row : goal.invariant-loop-row
 invariant-loop-row l = record {
   all : gathered [] l.rows l.face ≡ gathered l.labels (drop l.row-index l.rows) l.face;
-  few : length l.labels ≤ 8;
+  few : length l.labels ≤ l.most;
 }
