@@ -9,7 +9,6 @@ use Rattle.flip_rules.specs.Flips.{replay, OfFaces}
 use Rattle.flip_rules.specs.Entries.{JournalEntry}
 use Rattle.flip_rules.specs.declared.flip.Flip.{Flip}
 use Rattle.star_laws.specs.Stars.{flips_touch}
-use Rattle.stars.specs.StarViews.{VertexStar}
 use Rattle.anneal_plan.specs.Turns.{after_flips}
 use Rattle.board_rule.specs.Items.{item, has_item}
 use Rattle.board_rule.specs.Plays.{Sees}
@@ -60,9 +59,6 @@ module _ (a b : Pass) (p : ℕ) (x : HomeOf) (k : Space) (known : know b ≡ ope
   pub first_star : x.star ≡ star_in k p
   first_star = (sees_now.stars p x (item_front p x (know a).items)).1
 
-  pub first_dim : x.star.dim ≡ (know a).start.dim
-  first_dim = ap (λ (s : VertexStar). s.dim) first_star ∙ sees_now.dim
-
 -- what is told, the story of the try, and that no turn was made
 pub record Begun (task : Task) (o : Order) (a b : Pass) (h : Hold) (dim : ℕ) : Type 0 where
   pub story : Story
@@ -76,14 +72,13 @@ pub record Begun (task : Task) (o : Order) (a b : Pass) (h : Hold) (dim : ℕ) :
 only_place : (p q : ℕ) (x : HomeOf) → has_item ((p, x) ∷ []) q ≡ true → p ≡ q
 only_place p q x = tested p q (λ t. cond t true false ≡ true → p ≡ q) (λ e _. e) (λ _ h. off h)
 
-pub begun : (task : Task) (o : Order) (a b : Pass) (h : Hold) (dim : ℕ) (x : HomeOf) (k : Space) → IsTold o (know a).start.dim task → Empty (know a) → know b ≡ opened_by (know a) o.place x k → slot b o.place ≡ some (Home x) → dim ≡ x.star.dim
+pub begun : (task : Task) (o : Order) (a b : Pass) (h : Hold) (dim : ℕ) (x : HomeOf) (k : Space) → IsTold o (know a).start.dim task → Empty (know a) → know b ≡ opened_by (know a) o.place x k → slot b o.place ≡ some (Home x) → dim ≡ (know a).start.dim
     → h.places.items ≡ o.place ∷ [] → h.flips.items ≡ [] → h.copies.items ≡ [] → h.near.items ≡ [] → Begun task o a b h dim
 begun task o a b h dim x k told empty known at is places flips copies near =
     let p = o.place in
     let v = know a in
     let story : Story = record { place = p; flips = turns_of task x.star; home = x; dim = v.start.dim; worker = v.worker; earlier = v.tries; mine = v.mine } in
     let star : x.star ≡ star_in k p = first_star a b p x k known in
-    let same : dim ≡ v.start.dim = is ∙ first_dim a b p x k known in
     let items : (know b).items ≡ (p, x) ∷ [] = ap (λ (w : Hand). w.items) known ∙ ap (λ (l : List (ℕ × HomeOf)). (p, x) ∷ l) (no_items v a.sees empty) in
     let free : v.has_journal ≡ false = empty 0 in
     let going : Going story (know b) = record {
@@ -121,7 +116,7 @@ begun task o a b h dim x k told empty known at is places flips copies near =
     } in
     record {
       story = story;
-      told = subst (λ (d : ℕ). IsTold o d task) (sym same) told;
+      told = subst (λ (d : ℕ). IsTold o d task) (sym is) told;
       of = record { place = sym told.place; dim = sym told.dim_is; flips = refl };
       turned = record {
         going = going;

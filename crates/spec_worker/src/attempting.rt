@@ -8,7 +8,7 @@ ghost use Rattle.board_rule.specs.Plays.{IsRefused};
 ghost use Rattle.board_rule.specs.Tries.{Try};
 ghost use Rattle.board_rule.specs.declared.data.Home.{Home as HomeOf};
 ghost use Rattle.board_rule.specs.Views.{Empty, opened_by, lost_by};
-ghost use Rattle.vertex_claims.specs.Passes.{IsOf, IsSame, SameSlots, know, slot, places_on, round_of, marks_left};
+ghost use Rattle.vertex_claims.specs.Passes.{IsOf, IsSame, know, slot, places_on, start_of, round_of, marks_left};
 ghost use Rattle.held_stars.specs.Holding.{Story, Roomy};
 ghost use Rattle.held_stars.specs.Gates.{Follows, Keeps, fails, noted_in};
 ghost use Rattle.round_rules.specs.Tasks.{Task, changes};
@@ -18,26 +18,12 @@ ghost use Rattle.spec_worker.specs.Hearing.{Concludes, TryHeard, after_made, fli
 
 use crate::turning::{Order, ask, changes_of, make_turns};
 use anneal_plan::{Phase, allowed};
-use board_rule::{Home, Slot};
+use board_rule::Slot;
 use flip_rules::Flip;
 use held_stars::{Gate, Hold, Point, fetch, give_up, roll_back};
 use round_rules::Tried;
 use std::alloc::Global;
 use vertex_claims::{Board, Claimed, Pass};
-
-// The dimension, from the star of a place that is held.
-fn dim_at(board: &Board, pass: &mut Pass, place: u16) -> u32
-    requires board { IsOf pass.old board.now }
-    requires star { (x : HomeOf) × (slot pass.old place ≡ some (Slot.Home x)) }
-    ensures same { IsSame pass.old pass.new }
-    ensures known { (know pass.new ≡ know pass.old) × SameSlots pass.old pass.new }
-    ensures dim { (x : HomeOf) → slot pass.old place ≡ some (Slot.Home x) → (result ≡ x.star.dim) × (x.star.dim ≤ 6) }
-{
-    let Home { star, version } = pass.take_star(board, place);
-    let dim = star.dim();
-    pass.put_star(board, place, Home { star, version });
-    dim
-}
 
 // Whether a phase allows flips, and else by how much they change the number of facets.
 fn permit(dim: u32, phase: Phase, flips: &[Flip]) -> Result<(), i32>
@@ -126,21 +112,21 @@ fn explore<G: Gate>(
     conclude(board, pass, hold, gate, dim, order)
 }
 
-// Claims the place where a try begins, and answers the dimension of its star.
-fn begin_at(board: &Board, pass: &mut Pass, hold: &mut Hold, place: u16) -> Result<u32, Claimed>
+// Claims the place where a try begins.
+fn begin_at(board: &Board, pass: &mut Pass, hold: &mut Hold, place: u16) -> Result<(), Claimed>
     requires board { IsOf pass.old board.now }
     requires place { (0 < place) × (place ≤ places_on board.now) }
     requires empty { Empty (know pass.old) }
     requires room { Roomy hold.old × (0 < marks_left pass.old) }
     ensures same { IsSame pass.old pass.new }
     ensures room { Roomy hold.new }
-    ensures won { IfOk result (λ dim. (x : HomeOf) × (k : Space) × (know pass.new ≡ opened_by (know pass.old) place x k) × (slot pass.new place ≡ some (Slot.Home x)) × (dim ≡ x.star.dim) × (dim ≤ 6)) }
+    ensures won { OnOk result ((x : HomeOf) × (k : Space) × (know pass.new ≡ opened_by (know pass.old) place x k) × (slot pass.new place ≡ some (Slot.Home x))) }
     ensures hold { OnOk result ((hold.new.places.items ≡ place ∷ []) × (hold.new.flips.items ≡ []) × (hold.new.copies.items ≡ []) × (hold.new.near.items ≡ [])) }
     ensures lost { IfErr result (λ c. (c.place ≡ place) × IsRefused (know pass.old).worker c.owner × (know pass.new ≡ lost_by (know pass.old) place c.owner)) }
 {
     pass.first_claim(board, place)?;
     hold.begin(place);
-    Ok(dim_at(board, pass, place))
+    Ok(())
 }
 
 // Puts the stars back where nothing was committed, gives all places back, and answers the try.
@@ -187,6 +173,7 @@ pub(crate) fn try_at<G: Gate>(
     order: &Order<'_>,
 ) -> Tried
     requires board { IsOf pass.old board.now × ((know pass.old).places ≡ places_on board.now) × (1 ≤ (know pass.old).start.dim) }
+    requires start { (know pass.old).start ≡ start_of board.now }
     requires order { IsFit order.now (places_on board.now) }
     requires empty { Empty (know pass.old) }
     requires room { Roomy hold.old × (0 < marks_left pass.old) }
@@ -200,7 +187,8 @@ pub(crate) fn try_at<G: Gate>(
     ensures heard { Follows (G.heard gate.old) (G.heard gate.new) (TryHeard 0 result (noted_in (know pass.old).tries) (noted_in (know pass.new).tries) (flips_in (know pass.old).mine) (flips_in (know pass.new).mine)) }
 {
     match begin_at(board, pass, hold, order.place) {
-        Ok(dim) => {
+        Ok(()) => {
+            let dim = board.dim();
             let made = explore(board, pass, hold, alloc, gate, dim, order);
             finish(board, pass, hold, gate, made)
         }

@@ -3,4 +3,3 @@ pub mod Seats
 pub mod Books
 pub mod Flags
 pub mod Ends
-pub mod Pairs

@@ -5,4 +5,3 @@ pub mod Held
 pub mod Laid
 pub mod Passes
 pub mod Ended
-pub mod Pairs

@@ -32,7 +32,7 @@ pub struct Board {
 impl Board {
     ghost use Rattle.board_rule.specs.Ends.{AllBack};
     ghost use Rattle.board_rule.specs.Views.{living};
-    ghost use Rattle.vertex_claims.specs.Passes.{IsMainOf, IsTold, about_of, handed, main_knows};
+    ghost use Rattle.vertex_claims.specs.Passes.{IsMainOf, IsTold, about_of, handed, main_knows, start_of};
     ghost use Rattle.vertex_claims.specs.Ended.{IsEnd};
 
     /// A board on which no place is held: each place from 1 has its star in the complex, with version
@@ -73,6 +73,14 @@ impl Board {
             round,
         };
         Ok((board, Main { seat, handed: 0 }))
+    }
+
+    /// The dimension of the complex that it begins with.
+    pub fn dim(&self) -> u32
+        ensures dim { result ≡ (start_of self.now).dim }
+        ensures low { result ≤ 6 }
+    {
+        self.dim
     }
 
     /// The journal, and the stars after its entries, once every pass was taken back. After want of

@@ -14,7 +14,6 @@ mod count;
 mod laying;
 mod mark;
 mod pass;
-mod sample;
 mod turning;
 
 pub use board::Board;
