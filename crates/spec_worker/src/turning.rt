@@ -15,7 +15,7 @@ ghost use Rattle.round_rules.specs.Tasks.{Task, change, changes};
 ghost use Rattle.spec_worker.specs.Trying.{IsFit, IsTold, IsStoryOf, Turned, IsNext, Ended};
 ghost use Rattle.spec_worker.specs.Hearing.{is_quit};
 
-use anneal_plan::{Phase, proposal};
+use anneal_plan::{Phase, find_candidates, proposal};
 use board_rule::{Home, Slot};
 use flip_rules::{Flip, FlipFault};
 use held_stars::{Gate, Hold, Point, Stopped, claim_labels, make_flip};
@@ -48,8 +48,14 @@ pub(crate) fn ask<G: Gate>(gate: &mut G, point: Point) -> Result<(), Tried>
     }
 }
 
-// Proposes the flip of a turn at a place that is held.
-fn propose(board: &Board, pass: &mut Pass, order: &Order<'_>, turn: u32) -> Option<Flip>
+// Proposes the flip of a turn at a place that is held. The star keeps the candidates that it knows then.
+fn propose(
+    board: &Board,
+    pass: &mut Pass,
+    alloc: Global,
+    order: &Order<'_>,
+    turn: u32,
+) -> Option<Flip>
     requires board { IsOf pass.old board.now }
     requires star { (x : HomeOf) × (slot pass.old order.now.place ≡ some (Slot.Home x)) × (1 ≤ x.star.dim) }
     requires turn { turn ≤ 3 }
@@ -59,7 +65,8 @@ fn propose(board: &Board, pass: &mut Pass, order: &Order<'_>, turn: u32) -> Opti
     ensures proposal { (x : HomeOf) → slot pass.old order.now.place ≡ some (Slot.Home x) → result ≡ proposal_of x.star order.now.phase order.now.words.now turn order.now.free.now }
     ensures fits { (x : HomeOf) → slot pass.old order.now.place ≡ some (Slot.Home x) → IfSome result (FitsStar x.star order.now.free.now) }
 {
-    let Home { star, version } = pass.take_star(board, order.place);
+    let Home { mut star, version } = pass.take_star(board, order.place);
+    find_candidates(alloc, &mut star, order.phase, order.words);
     let flip = proposal(&star, order.phase, order.words, turn, order.free);
     pass.put_star(board, order.place, Home { star, version });
     flip
@@ -132,7 +139,7 @@ pub(crate) fn make_turns<G: Gate>(
     ensures heard { Follows (G.heard gate.old) (G.heard gate.new) (Keeps (fails is_quit result) (noted_in (know pass.old).tries) (noted_in (know pass.new).tries) (length hold.old.flips.items) (length hold.new.flips.items)) }
 {
     for turn in 0..order.count {
-        let Some(flip) = propose(board, pass, order, turn) else {
+        let Some(flip) = propose(board, pass, alloc, order, turn) else {
             return Ok(());
         };
         if let Err(answer) = take_turn(board, pass, hold, alloc, gate, dim, &flip) {

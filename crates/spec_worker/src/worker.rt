@@ -85,8 +85,7 @@ impl Worker {
     }
 
     /// One try, by eight words. Afterwards the pass holds nothing, and after every answer but
-    /// `Committed` the stars went home as they came. It takes no memory for a try that ends before its
-    /// first flip.
+    /// `Committed` the stars went home as they came. Want of memory ends no try before its first flip.
     pub fn attempt<G: Gate>(
         &mut self,
         board: &Board,
