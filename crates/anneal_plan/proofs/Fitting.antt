@@ -12,7 +12,7 @@ use Rattle.std.proofs.lemmas.List.Folds.{list_any-append}
 use Rattle.std.proofs.lemmas.List.Kept.{IsStrictlySortedBy-filter}
 use Rattle.complex_core.specs.Labels.{IsFace, has, holds, union, without, face_cmp}
 use Rattle.complex_core.specs.Rising.{rising}
-use Rattle.complex_core.specs.Spaces.{IsFacet, over, is_held}
+use Rattle.complex_core.specs.Complexes.{IsFacet, over, is_held}
 use Rattle.complex_core.specs.Maps.{used}
 use Rattle.complex_core.specs.Subsets.{subsets_of}
 use Rattle.complex_core.proofs.Sets.{Above, above_tail, above_cons, sorted_none, any-rising, some_rising, each_rising}
@@ -20,7 +20,7 @@ use Rattle.complex_core.proofs.Faces.{cmp_less, equal_cmp}
 use Rattle.complex_core.proofs.Laws.{both_ways, nat_eq_is, nat_eq_same, has-without, or_left, or_right, holds_has, holds_each, listed, listed-filter, listed-rising, same_lists, same_labels, same_sets_is, same_set_itself, length-without, sorted_without}
 use Rattle.complex_core.proofs.Runs.{held_alike}
 use Rattle.complex_core.proofs.SubsetLists.{two, clash, Chosen, chosen_is, fewer, part_is_face, above_from}
-use Rattle.flip_rules.specs.Flips.{sides, link_is, has_shape}
+use Rattle.flip_rules.specs.Flips.{join_boundary, link_is, has_shape}
 use Rattle.flip_rules.specs.declared.flip.Flip.{Flip}
 use Rattle.flip_rules.specs.declared.flip.Illegal.TheVariants.{BIsFace}
 use Rattle.flip_rules.proofs.Links.{same_lists_is, same_lists_from}
@@ -95,7 +95,7 @@ over_itself d rows a r pure t =
     one true u = refl
     one false u = u
 
-side_itself : (a : List ℕ) (x : ℕ) → rising face_cmp (sides a (x ∷ [])) ≡ a ∷ []
+side_itself : (a : List ℕ) (x : ℕ) → rising face_cmp (join_boundary a (x ∷ [])) ≡ a ∷ []
 side_itself a x = ap (λ b. union a (cond (not b) (x ∷ []) []) ∷ []) (nat_eq_same x)
 
 enter_one : (s : VertexStar) (free : List ℕ) (x : ℕ) (a : List ℕ) → IsStar s → 0 < x → has free x ≡ true → listed s.rows a ≡ true → has a x ≡ false → FitsStar s free (flip_of a (x ∷ []))
@@ -194,7 +194,7 @@ inside_one s free i n a h low high e f t =
         apart = apart s.rows a;
         sizes = omega (arith, size, f.size, e, high);
       };
-      link = same_lists_is (over s.rows a) (rising face_cmp (sides a b)) (second_so (nat_eq (length b) (i + 1)) (link_is s.rows a b) t);
+      link = same_lists_is (over s.rows a) (rising face_cmp (join_boundary a b)) (second_so (nat_eq (length b) (i + 1)) (link_is s.rows a b) t);
       first = f.used;
       second = λ z u. or_left (has (used s.rows) z) (has free z) (used_among s.rows (λ g. holds g a) z (first_so (has (used (over s.rows a)) z) (not (has a z)) (sym (has-less (used (over s.rows a)) a z) ∙ u)));
     }
@@ -299,15 +299,15 @@ only_b_can_break k s free f is fits =
     let a : List ℕ = f.a in
     let b : List ℕ = f.b in
     let near : over k.facets a ≡ over s.rows a = sym (ap (λ rs. over rs a) is.rows ∙ over_star k.facets s.vertex a fits.vertex) in
-    let link : link_is k.facets a b ≡ true = same_lists_from (over k.facets a) (rising face_cmp (sides a b)) (near ∙ fits.link) in
+    let link : link_is k.facets a b ≡ true = same_lists_from (over k.facets a) (rising face_cmp (join_boundary a b)) (near ∙ fits.link) in
     let shape : has_shape k.dim a b ≡ true = ap (λ d. has_shape d a b) (sym is.dim) ∙ shape_from s.dim a b fits.shape in
-    let held : is_held k.facets a ≡ true = held_alike k.facets s.rows a near ∙ held_some s.rows a (let g : 0 < length (over s.rows a) = omega (arith, ap length fits.link, some_rising face_cmp (sides a b) (some_sides a b (let z : 0 < length b = omega (arith, fits.shape.second) in z))) in g) in
+    let held : is_held k.facets a ≡ true = held_alike k.facets s.rows a near ∙ held_some s.rows a (let g : 0 < length (over s.rows a) = omega (arith, ap length fits.link, some_rising face_cmp (join_boundary a b) (some_sides a b (let z : 0 < length b = omega (arith, fits.shape.second) in z))) in g) in
     judged_by (has_shape k.dim a b) (is_held k.facets a) (link_is k.facets a b) (is_held k.facets b) shape held link
   where
     judged_by : (s h l n : Bool) → s ≡ true → h ≡ true → l ≡ true → verdict s h l n ≡ (if n then Err BIsFace else Ok tt)
     judged_by s h l n p q r = (λ i. verdict (p i) (q i) (r i) n)
 
-    some_sides : (a b : List ℕ) → 0 < length b → 0 < length (sides a b)
+    some_sides : (a b : List ℕ) → 0 < length b → 0 < length (join_boundary a b)
     some_sides a [] z = absurd (omega (arith, z))
     some_sides a (x ∷ b) z = omega arith
 

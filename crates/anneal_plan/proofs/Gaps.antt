@@ -7,7 +7,7 @@ use Rattle.std.specs.declared.cmp.Ordering.TheVariants.{Less}
 use Rattle.std.proofs.lemmas.Cmp.{nat_cmp_total}
 use Rattle.std.proofs.lemmas.List.{append-nil, drop_all}
 use Rattle.complex_core.specs.Labels.{IsRising, has}
-use Rattle.complex_core.specs.Spaces.{Space, IsComplex}
+use Rattle.complex_core.specs.Complexes.{ComplexView, IsComplex}
 use Rattle.complex_core.specs.Maps.{used, next_after}
 use Rattle.complex_core.proofs.Sets.{Above, above_cons, above_head, above_tail, above_lower, each_rising, sorted_rising}
 use Rattle.complex_core.proofs.Faces.{cmp_less, less_cmp, drop_next}
@@ -59,10 +59,10 @@ gaps_are n (suc k) (u ∷ us) s =
 
 -- ---- the labels of a complex
 
-pub used_rising : (k : Space) → IsComplex k → IsRising (used k.facets)
+pub used_rising : (k : ComplexView) → IsComplex k → IsRising (used k.facets)
 used_rising k h = above_cons nat_cmp 0 (used k.facets) (each_rising nat_cmp (λ y. nat_cmp 0 y ≡ Less) (flat_map (λ f. f) k.facets) (labels_above k.dim k.facets h.pure)) (sorted_rising nat_cmp_total (flat_map (λ f. f) k.facets))
 
-pub free_is : (k : Space) (places : ℕ) (us : List ℕ) → IsComplex k → us ≡ used k.facets → free_of k.facets places ≡ gaps 0 places us
+pub free_is : (k : ComplexView) (places : ℕ) (us : List ℕ) → IsComplex k → us ≡ used k.facets → free_of k.facets places ≡ gaps 0 places us
 free_is k places us h e = gaps_are 0 places (used k.facets) (used_rising k h) ∙ ap (gaps 0 places) (sym e)
 
 -- ---- one step of the walk

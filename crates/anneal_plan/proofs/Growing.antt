@@ -14,7 +14,7 @@ use Rattle.std.proofs.lemmas.List.Elements.{filter_map-append}
 use Rattle.std.proofs.lemmas.List.Kept.{IsStrictlySortedBy-filter}
 use Rattle.complex_core.specs.Labels.{has, holds, with, without, union, face_cmp}
 use Rattle.complex_core.specs.Rising.{rising}
-use Rattle.complex_core.specs.Spaces.{over, is_held}
+use Rattle.complex_core.specs.Complexes.{over, is_held}
 use Rattle.complex_core.specs.Maps.{used}
 use Rattle.complex_core.specs.Links.{less}
 use Rattle.complex_core.specs.Subsets.{subsets_of}
@@ -22,7 +22,7 @@ use Rattle.complex_core.proofs.Sets.{Above, above_head, above_tail, above_cons, 
 use Rattle.complex_core.proofs.Faces.{cmp_less, less_cmp}
 use Rattle.complex_core.proofs.Laws.{both_ways, both_false, nat_eq_is, nat_eq_same, has-with, has-without, has-union, or_left, or_right, holds_has, holds_each, listed, listed-append, same_lists, same_labels, same_set_itself, sorted_union}
 use Rattle.complex_core.proofs.SubsetLists.{two, clash, chosen_is, chosen_from, above_map, above_both}
-use Rattle.flip_rules.specs.Flips.{sides, has_shape, same_sets}
+use Rattle.flip_rules.specs.Flips.{join_boundary, has_shape, same_sets}
 use Rattle.flip_rules.proofs.Legal.{verdict}
 use Rattle.stars.specs.Candidates.{flip_of, faces_at, flip_at}
 use Rattle.anneal_plan.specs.Faces.{IsRow, AreRows, flips_at}
@@ -59,7 +59,7 @@ over_with (r ∷ rows) a y =
 
 flip_alike : (d : ℕ) (near rows : List (List ℕ)) (a : List ℕ) → over near a ≡ over rows a → flip_at d near a ≡ flip_at d rows a
 flip_alike d near rows a e = λ i. cond
-    (is_ok (verdict (has_shape d a (less (used (e i)) a)) (held_alike near rows a e i) (same_sets (e i) (rising face_cmp (sides a (less (used (e i)) a)))) (is_held [] (less (used (e i)) a))))
+    (is_ok (verdict (has_shape d a (less (used (e i)) a)) (held_alike near rows a e i) (same_sets (e i) (rising face_cmp (join_boundary a (less (used (e i)) a)))) (is_held [] (less (used (e i)) a))))
     (Some (flip_of a (less (used (e i)) a)))
     None
 

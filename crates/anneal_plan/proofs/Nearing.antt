@@ -10,7 +10,7 @@ use Rattle.std.proofs.lemmas.Cmp.{nat_cmp_total}
 use Rattle.std.proofs.lemmas.List.Folds.{list_any-append}
 use Rattle.std.proofs.lemmas.List.Kept.{IsStrictlySortedBy-filter}
 use Rattle.complex_core.specs.Labels.{has, holds}
-use Rattle.complex_core.specs.Spaces.{over}
+use Rattle.complex_core.specs.Complexes.{over}
 use Rattle.complex_core.specs.Maps.{used}
 use Rattle.complex_core.proofs.Sets.{Above, above_head, above_tail, above_cons, sorted_rising}
 use Rattle.complex_core.proofs.Faces.{less_cmp, cmp_less}

@@ -3,12 +3,12 @@ use Rattle.std.proofs.Common.{◌≡◌, inl, inr, ℕ, zero, suc, ◌+◌, ◌-
 use Rattle.std.specs.List.{AllByRecursion, flat_map}
 use Rattle.std.specs.Cmp.{first_so}
 use Rattle.complex_core.specs.Labels.{has, holds, face_cmp}
-use Rattle.complex_core.specs.Spaces.{beside}
+use Rattle.complex_core.specs.Complexes.{beside}
 use Rattle.complex_core.specs.Subsets.{subsets_of}
 use Rattle.complex_core.proofs.Sets.{each_rising}
 use Rattle.complex_core.proofs.Sorting.{each_append, each_filter}
 use Rattle.complex_core.proofs.SubsetLists.{two}
-use Rattle.flip_rules.specs.Flips.{sides}
+use Rattle.flip_rules.specs.Flips.{join_boundary}
 use Rattle.flip_rules.specs.declared.flip.Flip.{Flip}
 use Rattle.star_laws.specs.Stars.{star}
 use Rattle.stars.specs.StarViews.{VertexStar}
@@ -145,10 +145,10 @@ proposal_has s phase words turn free f h e =
 
 after_has : (s : VertexStar) (f : Flip) → HasVertex s.vertex s.rows → HasVertex s.vertex (after_flip s f).rows
 after_has s f h =
-    each_rising face_cmp (λ row. has row s.vertex ≡ true) (beside s.rows f.a ++ star (sides f.b f.a) s.vertex)
-    (each_append (λ row. has row s.vertex ≡ true) (beside s.rows f.a) (star (sides f.b f.a) s.vertex)
+    each_rising face_cmp (λ row. has row s.vertex ≡ true) (beside s.rows f.a ++ star (join_boundary f.b f.a) s.vertex)
+    (each_append (λ row. has row s.vertex ≡ true) (beside s.rows f.a) (star (join_boundary f.b f.a) s.vertex)
     (each_filter (λ row. has row s.vertex ≡ true) (λ g. not (holds g f.a)) s.rows h)
-    (of_star (sides f.b f.a)))
+    (of_star (join_boundary f.b f.a)))
   where
     of_star : (fs : List (List ℕ)) → HasVertex s.vertex (star fs s.vertex)
     of_star [] = tt

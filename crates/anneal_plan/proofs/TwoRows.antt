@@ -13,14 +13,14 @@ use Rattle.std.proofs.lemmas.List.{length-map}
 use Rattle.complex_core.specs.Labels.{has, holds, union, without, face_cmp}
 use Rattle.complex_core.specs.Links.{less}
 use Rattle.complex_core.specs.Rising.{rising}
-use Rattle.complex_core.specs.Spaces.{IsFacet, over}
+use Rattle.complex_core.specs.Complexes.{IsFacet, over}
 use Rattle.complex_core.proofs.Sets.{above_head, above_tail, sorted_rising}
 use Rattle.complex_core.proofs.Faces.{less_cmp}
 use Rattle.complex_core.proofs.Laws.{nat_eq_is, nat_eq_same, has-union, has-without, or_left, or_right, some_has, same_sets_is, listed, listed-filter, listed-rising, same_labels, same_set_itself, sorted_union}
 use Rattle.complex_core.proofs.SubsetLists.{two, clash}
-use Rattle.flip_rules.specs.Flips.{sides, link_is}
+use Rattle.flip_rules.specs.Flips.{join_boundary, link_is}
 use Rattle.flip_rules.specs.declared.flip.Flip.{Flip}
-use Rattle.flip_rules.proofs.Links.{side, side_of, listed-sides, same_lists_is}
+use Rattle.flip_rules.proofs.Links.{side, side_of, listed-join_boundary, same_lists_is}
 use Rattle.stars.specs.StarViews.{VertexStar, IsStar}
 use Rattle.stars.specs.Candidates.{flip_of, opposite, is_candidate, faces_at, candidate_faces, IsListOf}
 use Rattle.stars.proofs.Gathered.{apart, has-less, length_less, sorted_less, sorted_opposite}
@@ -67,17 +67,17 @@ not_in false false h = refl
 pub two_tell : (rows : List (List ℕ)) (a r q : List ℕ) (rest : List (List ℕ)) → IsStrictlySortedBy nat_cmp r → over rows a ≡ r ∷ q ∷ rest → link_is rows a (opposite rows a) ≡ true → less (union r q) a ≡ opposite rows a
 two_tell rows a r q rest s e t =
     let b : List ℕ = opposite rows a in
-    let all : r ∷ q ∷ rest ≡ rising face_cmp (sides a b) = sym e ∙ same_lists_is (over rows a) (rising face_cmp (sides a b)) t in
-    let rises : IsStrictlySortedBy face_cmp (r ∷ q ∷ rest) = (let P : List (List ℕ) → Type 0 = λ fs. IsStrictlySortedBy face_cmp fs in subst P (sym all) (sorted_rising nat_list_cmp_total (sides a b))) in
-    let first : (x : ℕ) × (has b x ≡ true) × (r ≡ side a b x) = side_of a b r (sym (listed-rising (sides a b) r) ∙ ap (λ fs. listed fs r) (sym all) ∙ or_left (pointwise nat_eq r r) (listed (q ∷ rest) r) (same_set_itself r)) in
-    let second : (y : ℕ) × (has b y ≡ true) × (q ≡ side a b y) = side_of a b q (sym (listed-rising (sides a b) q) ∙ ap (λ fs. listed fs q) (sym all) ∙ or_right (pointwise nat_eq r q) (listed (q ∷ rest) q) (or_left (pointwise nat_eq q q) (listed rest q) (same_set_itself q))) in
+    let all : r ∷ q ∷ rest ≡ rising face_cmp (join_boundary a b) = sym e ∙ same_lists_is (over rows a) (rising face_cmp (join_boundary a b)) t in
+    let rises : IsStrictlySortedBy face_cmp (r ∷ q ∷ rest) = (let P : List (List ℕ) → Type 0 = λ fs. IsStrictlySortedBy face_cmp fs in subst P (sym all) (sorted_rising nat_list_cmp_total (join_boundary a b))) in
+    let first : (x : ℕ) × (has b x ≡ true) × (r ≡ side a b x) = side_of a b r (sym (listed-rising (join_boundary a b) r) ∙ ap (λ fs. listed fs r) (sym all) ∙ or_left (pointwise nat_eq r r) (listed (q ∷ rest) r) (same_set_itself r)) in
+    let second : (y : ℕ) × (has b y ≡ true) × (q ≡ side a b y) = side_of a b q (sym (listed-rising (join_boundary a b) q) ∙ ap (λ fs. listed fs q) (sym all) ∙ or_right (pointwise nat_eq r q) (listed (q ∷ rest) q) (or_left (pointwise nat_eq q q) (listed rest q) (same_set_itself q))) in
     same_labels (less (union r q) a) b (sorted_less (union r q) a (sorted_union r q s)) (sorted_opposite rows a)
     (λ z. all_of_two a b r q first.0 second.0 first.2 second.2 (above_head face_cmp r (q ∷ rest) rises).0 z ∙ not_in (has a z) (has b z) (apart rows a z))
 
 -- ---- there are two rows over a candidate
 
-listed_side : (a b : List ℕ) (x : ℕ) → has b x ≡ true → listed (sides a b) (side a b x) ≡ true
-listed_side a b x t = listed-sides a b b (side a b x) ∙ some_has (λ y. pointwise nat_eq (side a b y) (side a b x)) b x t (same_set_itself (side a b x))
+listed_side : (a b : List ℕ) (x : ℕ) → has b x ≡ true → listed (join_boundary a b) (side a b x) ≡ true
+listed_side a b x t = listed-join_boundary a b b (side a b x) ∙ some_has (λ y. pointwise nat_eq (side a b y) (side a b x)) b x t (same_set_itself (side a b x))
 
 -- the sides without one label and without another one differ
 sides_differ : (a b : List ℕ) (x y : ℕ) → has a x ≡ false → has b x ≡ true → nat_eq x y ≡ false → side a b x ≡ side a b y → ⊥
@@ -108,7 +108,7 @@ module _ (s : VertexStar) (a : List ℕ) (h : IsStar s) (l : IsListed s a) where
   linked = second_so (nat_eq (length b) (l.index + 1)) (link_is s.rows a b) l.is
 
   there : (x : ℕ) → has b x ≡ true → listed (over s.rows a) (side a b x) ≡ true
-  there x t = ap (λ fs. listed fs (side a b x)) (same_lists_is (over s.rows a) (rising face_cmp (sides a b)) linked) ∙ listed-rising (sides a b) (side a b x) ∙ listed_side a b x t
+  there x t = ap (λ fs. listed fs (side a b x)) (same_lists_is (over s.rows a) (rising face_cmp (join_boundary a b)) linked) ∙ listed-rising (join_boundary a b) (side a b x) ∙ listed_side a b x t
 
   not_a : (x : ℕ) → has b x ≡ true → has a x ≡ false
   not_a x t = elim (two (has a x)) [ inl e ↦ clash (has b x) t (apart s.rows a x e) | inr e ↦ e ]

@@ -3,9 +3,9 @@ use Rattle.std.specs.Prelude.{◌≡◌, true, ℕ, ◌||◌, if◌then◌else�
 use Rattle.std.specs.List.{AllByRecursion}
 use Rattle.complex_core.specs.Labels.{has, face_cmp}
 use Rattle.complex_core.specs.Rising.{rising}
-use Rattle.complex_core.specs.Spaces.{Space, over, is_held}
+use Rattle.complex_core.specs.Complexes.{ComplexView, over, is_held}
 use Rattle.complex_core.specs.Maps.{used}
-use Rattle.flip_rules.specs.Flips.{OfFaces, Shaped, sides, why}
+use Rattle.flip_rules.specs.Flips.{OfFaces, Shaped, join_boundary, broken_rule}
 use Rattle.flip_rules.specs.declared.flip.Flip.{Flip}
 use Rattle.flip_rules.specs.declared.flip.Illegal.TheVariants.{BIsFace}
 use Rattle.stars.specs.StarViews.{VertexStar, IsStarOf}
@@ -18,7 +18,7 @@ pub record FitsStar (s : VertexStar) (free : List ℕ) (f : Flip) : Type 0 where
   pub vertex : has f.a s.vertex ≡ true
   pub faces : OfFaces f
   pub shape : Shaped s.dim f.a f.b
-  pub link : over s.rows f.a ≡ rising face_cmp (sides f.a f.b)
+  pub link : over s.rows f.a ≡ rising face_cmp (join_boundary f.a f.b)
   -- A has labels of the star, and B labels of the star or free ones
   pub first : (x : ℕ) → has f.a x ≡ true → has (used s.rows) x ≡ true
   pub second : (x : ℕ) → has f.b x ≡ true → (has (used s.rows) x || has free x) ≡ true
@@ -30,4 +30,4 @@ HasNoCandidate s phase words turn free =
 
 -- on each complex with this star such a flip breaks no rule but the last one
 abbrev pub OnlyBCanBreak : Type 0
-OnlyBCanBreak = (k : Space) (s : VertexStar) (free : List ℕ) (f : Flip) → IsStarOf k s → FitsStar s free f → why k f.a f.b ≡ (if is_held k.facets f.b then Err BIsFace else Ok tt)
+OnlyBCanBreak = (k : ComplexView) (s : VertexStar) (free : List ℕ) (f : Flip) → IsStarOf k s → FitsStar s free f → broken_rule k f.a f.b ≡ (if is_held k.facets f.b then Err BIsFace else Ok tt)

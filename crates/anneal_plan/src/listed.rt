@@ -1,7 +1,7 @@
 //! The candidates that a star keeps as a list: found once, and told from it again.
 
 ghost use Rattle.std.specs.Prelude.{◌≡◌, ◌<◌, ◌≤◌, ℕ, length, slice_get, true, IfOk};
-ghost use Rattle.complex_core.specs.Spaces.{over};
+ghost use Rattle.complex_core.specs.Complexes.{over};
 ghost use Rattle.stars.specs.StarViews.{IsStar};
 ghost use Rattle.stars.specs.Candidates.{IsListOf, candidate_faces, flip_of, opposite};
 ghost use Rattle.anneal_plan.specs.Listed.{IsListed, TellsTwo};

@@ -5,18 +5,18 @@ use mathlib.Core.Option.{Option, none, some}
 use native.Mathlib.Decide.{ℕ_discrete}
 use lib.ListN.{get_elem?}
 use Rattle.atomic_table.proofs.Lists.{set_here, set_else, at_map}
-use Rattle.complex_core.specs.Spaces.{Space}
+use Rattle.complex_core.specs.Complexes.{ComplexView}
 use Rattle.flip_rules.specs.Entries.{JournalEntry}
 use Rattle.board_rule.specs.Books.{Book}
 use Rattle.board_rule.specs.Views.{home_at}
 use Rattle.board_rule.specs.Rule.{Housed}
 use Rattle.board_rule.specs.Ends.{Opens}
-use Rattle.board_rule.specs.declared.about.About.{About}
+use Rattle.board_rule.specs.declared.setup.Setup.{Setup}
 use Rattle.board_rule.specs.declared.data.Slot.{Slot}
 use Rattle.board_rule.specs.declared.data.Slot.TheVariants.{Journal, Home}
 
 -- a place of which the word becomes a pass's number
-pub housed_away : (places : ℕ) (words : List ℕ) (homes : List (Option Slot)) (journal : List JournalEntry) (now : Space) (p n : ℕ) → length words ≡ places + 1 → p ≤ places → 0 < n
+pub housed_away : (places : ℕ) (words : List ℕ) (homes : List (Option Slot)) (journal : List JournalEntry) (now : ComplexView) (p n : ℕ) → length words ≡ places + 1 → p ≤ places → 0 < n
     → Housed places words homes journal now → Housed places (set words p n) (set homes p none) journal now
 housed_away places words homes journal now p n long near some_one h =
     let at_p : get_or (set words p n) p 0 ≡ n = get_or-set_same words p n 0 (omega arith) in
@@ -28,7 +28,7 @@ housed_away places words homes journal now p n long near some_one h =
     }
 
 -- a place from 1 comes home
-pub housed_back : (places : ℕ) (words : List ℕ) (homes : List (Option Slot)) (journal : List JournalEntry) (now : Space) (p : ℕ) → length homes ≡ places + 1 → p ≤ places → 0 < p
+pub housed_back : (places : ℕ) (words : List ℕ) (homes : List (Option Slot)) (journal : List JournalEntry) (now : ComplexView) (p : ℕ) → length homes ≡ places + 1 → p ≤ places → 0 < p
     → Housed places words homes journal now → Housed places (set words p 0) (set homes p (some (Home (home_at now journal p)))) journal now
 housed_back places words homes journal now p wide near pos h =
     let x : Option Slot = some (Home (home_at now journal p)) in
@@ -41,7 +41,7 @@ housed_back places words homes journal now p wide near pos h =
     }
 
 -- the journal comes home, and no free place is touched by what was added
-pub housed_book : (places : ℕ) (words : List ℕ) (homes : List (Option Slot)) (before after : List JournalEntry) (now end : Space) (b : Book) → 0 < length homes → b.entries ≡ after
+pub housed_book : (places : ℕ) (words : List ℕ) (homes : List (Option Slot)) (before after : List JournalEntry) (now end : ComplexView) (b : Book) → 0 < length homes → b.entries ≡ after
     → ((q : ℕ) → 0 < q → get_or words q 0 ≡ 0 → home_at end after q ≡ home_at now before q)
     → Housed places words homes before now → Housed places (set words 0 0) (set homes 0 (some (Journal b))) after end
 housed_book places words homes before after now end b wide is same h =
@@ -53,8 +53,8 @@ housed_book places words homes before after now end b wide is same h =
     }
 
 -- all is at home
-pub housed_first : (about : About) (words : List ℕ) (slots : List Slot) → Opens about words slots → Housed about.places words (map some slots) [] about.start.value
-housed_first about words slots o = record {
-  stars = λ p pos near z. at_map (λ (x : Slot). some x) slots p (Home (home_at about.start.value [] p)) (o.stars p pos near);
+pub housed_first : (setup : Setup) (words : List ℕ) (slots : List Slot) → Opens setup words slots → Housed setup.places words (map some slots) [] setup.start.value
+housed_first setup words slots o = record {
+  stars = λ p pos near z. at_map (λ (x : Slot). some x) slots p (Home (home_at setup.start.value [] p)) (o.stars p pos near);
   book = λ z. (o.room, at_map (λ (x : Slot). some x) slots 0 (Journal record { entries = []; room = o.room }) o.journal);
 }

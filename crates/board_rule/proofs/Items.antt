@@ -6,7 +6,7 @@ use native.Mathlib.Decide.{ℕ_discrete}
 use Rattle.flip_rules.specs.declared.flip.Flip.{Flip}
 use Rattle.board_rule.specs.Items.{item, has_item, without}
 use Rattle.board_rule.specs.Views.{flipped_home, all_flipped}
-use Rattle.board_rule.specs.declared.data.Home.{Home}
+use Rattle.board_rule.specs.declared.data.VersionedStar.{VersionedStar}
 
 -- a test of two numbers, by cases
 pub tested : (a b : ℕ) (F : Bool → Type 0) → (a ≡ b → F true) → (a ≢ b → F false) → F (eqb a b)
@@ -66,11 +66,11 @@ module _ {A : Type 0} where
   pub has_less : (p q : ℕ) (xs : List (ℕ × A)) → has_item (without p xs) q ≡ true → has_item xs q ≡ true
   has_less p q xs h = dite (ℕ_discrete q p) (λ e. off (sym (has_without_here p xs) ∙ (ap (λ (k : ℕ). has_item (without p xs) k) (sym e) ∙ h))) (λ ne. sym (has_without_else p q xs ne) ∙ h)
 
-pub has_flipped : (fs : List Flip) (xs : List (ℕ × Home)) (q : ℕ) → has_item (all_flipped fs xs) q ≡ has_item xs q
+pub has_flipped : (fs : List Flip) (xs : List (ℕ × VersionedStar)) (q : ℕ) → has_item (all_flipped fs xs) q ≡ has_item xs q
 has_flipped fs [] q = refl
 has_flipped fs (x ∷ xs) q = ap (λ (h : Bool). cond (eqb x.0 q) true h) (has_flipped fs xs q)
 
-pub item_flipped : (fs : List Flip) (xs : List (ℕ × Home)) (q : ℕ) (y : Home) → item (all_flipped fs xs) q ≡ some y → (x : Home) × (item xs q ≡ some x) × (y ≡ flipped_home fs q x)
+pub item_flipped : (fs : List Flip) (xs : List (ℕ × VersionedStar)) (q : ℕ) (y : VersionedStar) → item (all_flipped fs xs) q ≡ some y → (x : VersionedStar) × (item xs q ≡ some x) × (y ≡ flipped_home fs q x)
 item_flipped fs [] q y h = absurd (some-ne-none y (sym h))
-item_flipped fs (x ∷ xs) q y h = tested x.0 q (λ b. cond b (some (flipped_home fs x.0 x.1)) (item (all_flipped fs xs) q) ≡ some y → (z : Home) × (cond b (some x.1) (item xs q) ≡ some z) × (y ≡ flipped_home fs q z))
+item_flipped fs (x ∷ xs) q y h = tested x.0 q (λ b. cond b (some (flipped_home fs x.0 x.1)) (item (all_flipped fs xs) q) ≡ some y → (z : VersionedStar) × (cond b (some x.1) (item xs q) ≡ some z) × (y ≡ flipped_home fs q z))
     (λ e h. (x.1, refl, sym (some-injective (flipped_home fs x.0 x.1) y h) ∙ ap (λ (k : ℕ). flipped_home fs k x.1) e)) (λ _ h. item_flipped fs xs q y h) h

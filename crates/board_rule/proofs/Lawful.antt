@@ -6,9 +6,9 @@ use mathlib.Core.Option.{some, some-injective}
 use lib.ListN.{get_elem?}
 use lib.Seq.{set-get_or}
 use Rattle.complex_core.specs.Labels.{has}
-use Rattle.complex_core.specs.Spaces.{Space}
+use Rattle.complex_core.specs.Complexes.{ComplexView}
 use Rattle.complex_core.proofs.Laws.{or_left, or_right}
-use Rattle.flip_rules.specs.Flips.{why, flipped, replay}
+use Rattle.flip_rules.specs.Flips.{broken_rule, flipped, replay}
 use Rattle.flip_rules.specs.Entries.{JournalEntry}
 use Rattle.flip_rules.specs.Journals.{mine, flat, flip_touches}
 use Rattle.flip_rules.specs.declared.flip.Flip.{Flip}
@@ -26,62 +26,62 @@ use Rattle.board_rule.specs.Books.{Book}
 use Rattle.board_rule.specs.Views.{home_at, keeps, opened_by, lost_by, with_item, counted, with_journal, without_item, without_journal, committed, one_more_pass, one_back, newcomer}
 use Rattle.board_rule.specs.Rule.{Board, Ruled, core_of}
 use Rattle.board_rule.specs.Steps.{looked, taken, put_home, IsAt, core_at, GoesOver, FlipsMade, IsCommit, Writes, OpeningLaw, FirstWonLaw, FirstRefusedLaw, LaterWonLaw, JournalWonLaw, LaterRefusedLaw, ReleaseLaw, LeaveLaw, CommitLaw, HandOutLaw, TakeBackLaw, ClosedLaw}
-use Rattle.board_rule.specs.declared.about.About.{About}
-use Rattle.board_rule.specs.declared.data.Home.{Home as HomeOf}
+use Rattle.board_rule.specs.declared.setup.Setup.{Setup}
+use Rattle.board_rule.specs.declared.data.VersionedStar.{VersionedStar}
 use Rattle.board_rule.specs.declared.data.Slot.{Slot}
 use Rattle.board_rule.specs.declared.data.Slot.TheVariants.{Journal, Home}
-use Rattle.board_rule.specs.declared.view.Hand.{Hand}
-use Rattle.board_rule.specs.declared.view.Chief.{Chief}
+use Rattle.board_rule.specs.declared.view.PassView.{PassView}
+use Rattle.board_rule.specs.declared.view.MainView.{MainView}
 use Rattle.board_rule.specs.declared.view.View.TheVariants.{Main, Pass, Spent}
 use Rattle.board_rule.proofs.Items.{off}
 use Rattle.board_rule.proofs.Seats.{within, one_pass}
 use Rattle.board_rule.proofs.Writing.{nothing_pending}
 use Rattle.board_rule.proofs.Firm.{firm_of, legal, is_id, on_places, number}
 use Rattle.board_rule.proofs.Keeps.{closes}
-use Rattle.board_rule.proofs.Steps.{Meets, the_chief, opened, lost, won_more, refused, released, fetched, left, now_after, wrote, handed_out, taken_back, first}
+use Rattle.board_rule.proofs.Steps.{Meets, the_main_view, opened, lost, won_more, refused, released, fetched, left, now_after, wrote, handed_out, taken_back, first}
 
 -- a state that meets the rule with this journal, and what is so of its core
-over : (about : About) (s t : Board) (r : Ruled about s) (so : Core → Core → Type 0) (journal : List JournalEntry) → Meets about t journal → so (core_at about s r) (core_of about t.words journal) → GoesOver about s t r so
-over about s t r so journal m h = (m.0, subst (λ (j : List JournalEntry). so (core_at about s r) (core_of about t.words j)) (sym m.1) h)
+over : (setup : Setup) (s t : Board) (r : Ruled setup s) (so : Core → Core → Type 0) (journal : List JournalEntry) → Meets setup t journal → so (core_at setup s r) (core_of setup t.words journal) → GoesOver setup s t r so
+over setup s t r so journal m h = (m.0, subst (λ (j : List JournalEntry). so (core_at setup s r) (core_of setup t.words j)) (sym m.1) h)
 
 -- the state after is the one that the step makes
-from : (about : About) (s t made : Board) (r : Ruled about s) (so : Core → Core → Type 0) → t ≡ made → GoesOver about s made r so → GoesOver about s t r so
-from about s t made r so is g = subst (λ (u : Board). GoesOver about s u r so) (sym is) g
+from : (setup : Setup) (s t made : Board) (r : Ruled setup s) (so : Core → Core → Type 0) → t ≡ made → GoesOver setup s made r so → GoesOver setup s t r so
+from setup s t made r so is g = subst (λ (u : Board). GoesOver setup s u r so) (sym is) g
 
-module _ (about : About) (s : Board) (r : Ruled about s) where
+module _ (setup : Setup) (s : Board) (r : Ruled setup s) where
   abbrev core : Core
-  core = core_at about s r
+  core = core_at setup s r
 
   -- a seat of a pass is a worker's number
-  is_worker : (id : ℕ) (v : Hand) → IsAt s id v → IsWorker core id
-  is_worker id v me = let near = within s.views id (Pass v) me in let few = r.owned.few in record { low = (r.owned.numbers id v me).1; high = omega (arith, length-replicate {A = List Flip} about.workers [], near, few) }
+  is_worker : (id : ℕ) (v : PassView) → IsAt s id v → IsWorker core id
+  is_worker id v me = let near = within s.views id (Pass v) me in let few = r.owned.few in record { low = (r.owned.numbers id v me).1; high = omega (arith, length-replicate {A = List Flip} setup.workers [], near, few) }
 
-  place_there : (p : ℕ) → p ≤ about.places → p ≤ places_of core
+  place_there : (p : ℕ) → p ≤ setup.places → p ≤ places_of core
   place_there p near = let l = r.owned.long in omega (arith, l, near)
 
   -- a word that isn't 0 names another pass, where this one has not the place
-  another : (id p : ℕ) (v : Hand) → IsAt s id v → keeps v p ≡ false → get_or s.words p 0 ≢ 0 → get_or s.words p 0 ≢ id
+  another : (id p : ℕ) (v : PassView) → IsAt s id v → keeps v p ≡ false → get_or s.words p 0 ≢ 0 → get_or s.words p 0 ≢ id
   another id p v me hasn't nz e =
       let t = r.owned.owners p (get_or s.words p 0) refl (omega arith) in
-      absurd (off (sym hasn't ∙ (ap (λ (u : Hand). keeps u p) (one_pass s.views id (get_or s.words p 0) v t.0 (sym e) me t.1) ∙ t.2)))
+      absurd (off (sym hasn't ∙ (ap (λ (u : PassView). keeps u p) (one_pass s.views id (get_or s.words p 0) v t.0 (sym e) me t.1) ∙ t.2)))
 
-  claim : (id p : ℕ) (v u : Hand) → IsAt s id v → p ≤ about.places → get_or s.words p 0 ≡ 0 → Meets about (taken s p id u) r.journal → GoesOver about s (taken s p id u) r (λ c next. Step c (event.Claim id p) (Ok told.Claimed) next)
-  claim id p v u me near free m = over about s (taken s p id u) r (λ c next. Step c (event.Claim id p) (Ok told.Claimed) next) r.journal m (is_worker id v me, (place_there p near, free, refl))
+  claim : (id p : ℕ) (v u : PassView) → IsAt s id v → p ≤ setup.places → get_or s.words p 0 ≡ 0 → Meets setup (taken s p id u) r.journal → GoesOver setup s (taken s p id u) r (λ c next. Step c (event.Claim id p) (Ok told.Claimed) next)
+  claim id p v u me near free m = over setup s (taken s p id u) r (λ c next. Step c (event.Claim id p) (Ok told.Claimed) next) r.journal m (is_worker id v me, (place_there p near, free, refl))
 
-  refusal_of : (id p : ℕ) (v u : Hand) → IsAt s id v → p ≤ about.places → keeps v p ≡ false → get_or s.words p 0 ≢ 0 → Meets about (looked s id u) r.journal
-      → GoesOver about s (looked s id u) r (λ c next. Step c (event.Claim id p) (Err (refusal.Busy p (get_or s.words p 0))) next)
-  refusal_of id p v u me near hasn't nz m = over about s (looked s id u) r (λ c next. Step c (event.Claim id p) (Err (refusal.Busy p (get_or s.words p 0))) next) r.journal m
+  refusal_of : (id p : ℕ) (v u : PassView) → IsAt s id v → p ≤ setup.places → keeps v p ≡ false → get_or s.words p 0 ≢ 0 → Meets setup (looked s id u) r.journal
+      → GoesOver setup s (looked s id u) r (λ c next. Step c (event.Claim id p) (Err (refusal.Busy p (get_or s.words p 0))) next)
+  refusal_of id p v u me near hasn't nz m = over setup s (looked s id u) r (λ c next. Step c (event.Claim id p) (Err (refusal.Busy p (get_or s.words p 0))) next) r.journal m
       ((is_worker id v me, (refl, place_there p near, refl, nz, another id p v me hasn't nz)), refl)
 
-  release : (id p : ℕ) (v u : Hand) (x : Slot) → IsAt s id v → keeps v p ≡ true → Meets about (put_home s p x id u) r.journal → GoesOver about s (put_home s p x id u) r (λ c next. Step c (event.Release id p) (Ok told.Released) next)
-  release id p v u x me has m = let old = r.owned.owned id v p me has in over about s (put_home s p x id u) r (λ c next. Step c (event.Release id p) (Ok told.Released) next) r.journal m
-      (is_worker id v me, (place_there p old.0, old.1, (λ _. nothing_pending about.workers (id - 1)), refl))
+  release : (id p : ℕ) (v u : PassView) (x : Slot) → IsAt s id v → keeps v p ≡ true → Meets setup (put_home s p x id u) r.journal → GoesOver setup s (put_home s p x id u) r (λ c next. Step c (event.Release id p) (Ok told.Released) next)
+  release id p v u x me has m = let old = r.owned.owned id v p me has in over setup s (put_home s p x id u) r (λ c next. Step c (event.Release id p) (Ok told.Released) next) r.journal m
+      (is_worker id v me, (place_there p old.0, old.1, (λ _. nothing_pending setup.workers (id - 1)), refl))
 
   -- the star that lies at home is the one now
-  same_home : (p : ℕ) (x : HomeOf) → 0 < p → p ≤ about.places → get_or s.words p 0 ≡ 0 → get_elem? s.homes p ≡ some (some (Home x)) → home_at r.now r.journal p ≡ x
+  same_home : (p : ℕ) (x : VersionedStar) → 0 < p → p ≤ setup.places → get_or s.words p 0 ≡ 0 → get_elem? s.homes p ≡ some (some (Home x)) → home_at r.now r.journal p ≡ x
   same_home p x pos near free lies = one_home (home_at r.now r.journal p) x (some-injective (Home (home_at r.now r.journal p)) (Home x) (some-injective (some (Home (home_at r.now r.journal p))) (some (Home x)) (sym (r.housed.stars p pos near free) ∙ lies)))
     where
-      one_home : (a b : HomeOf) → Home a ≡ Home b → a ≡ b
+      one_home : (a b : VersionedStar) → Home a ≡ Home b → a ≡ b
       one_home a b e = cc
 
   -- and so is the journal
@@ -95,74 +95,74 @@ module _ (about : About) (s : Board) (r : Ruled about s) where
       one_book a b e = cc
 
 pub opening_law : OpeningLaw
-opening_law about words slots o =
-    let m = first about words slots o in
-    (m.0, ap (λ (j : List JournalEntry). core_of about words j) m.1 ∙ ap (λ (ws : List ℕ). core_of about ws []) o.free)
+opening_law setup words slots o =
+    let m = first setup words slots o in
+    (m.0, ap (λ (j : List JournalEntry). core_of setup words j) m.1 ∙ ap (λ (ws : List ℕ). core_of setup ws []) o.free)
 
 pub first_won : FirstWonLaw
-first_won about s t r id p k =
+first_won setup s t r id p k =
     let so : Core → Core → Type 0 = λ c next. Step c (event.Claim id p) (Ok told.Claimed) next in
-    let same = same_home about s r p k.home k.low k.high k.free k.lies in
-    from about s t (taken s p id (opened_by k.hand p k.home k.seen)) r so k.after
-    (subst (λ (x : HomeOf). GoesOver about s (taken s p id (opened_by k.hand p x k.seen)) r so) same
-    (claim about s r id p k.hand (opened_by k.hand p (home_at r.now r.journal p) k.seen) k.at k.high k.free (opened about s r p id k.hand k.at k.seen k.low k.high k.free k.empty)))
+    let same = same_home setup s r p k.home k.low k.high k.free k.lies in
+    from setup s t (taken s p id (opened_by k.pass_view p k.home k.seen)) r so k.after
+    (subst (λ (x : VersionedStar). GoesOver setup s (taken s p id (opened_by k.pass_view p x k.seen)) r so) same
+    (claim setup s r id p k.pass_view (opened_by k.pass_view p (home_at r.now r.journal p) k.seen) k.at k.high k.free (opened setup s r p id k.pass_view k.at k.seen k.low k.high k.free k.empty)))
 
 pub first_refused : FirstRefusedLaw
-first_refused about s t r id p k =
-    let u : Hand = lost_by k.hand p (get_or s.words p 0) in
-    from about s t (looked s id u) r (λ c next. Step c (event.Claim id p) (Err (refusal.Busy p (get_or s.words p 0))) next) k.after
-    (refusal_of about s r id p k.hand u k.at k.high (k.empty p) k.busy (lost about s r p id k.hand k.at k.low k.busy k.empty))
+first_refused setup s t r id p k =
+    let u : PassView = lost_by k.pass_view p (get_or s.words p 0) in
+    from setup s t (looked s id u) r (λ c next. Step c (event.Claim id p) (Err (refusal.Busy p (get_or s.words p 0))) next) k.after
+    (refusal_of setup s r id p k.pass_view u k.at k.high (k.empty p) k.busy (lost setup s r p id k.pass_view k.at k.low k.busy k.empty))
 
 pub later_won : LaterWonLaw
-later_won about s t r id p k =
+later_won setup s t r id p k =
     let so : Core → Core → Type 0 = λ c next. Step c (event.Claim id p) (Ok told.Claimed) next in
-    let same = same_home about s r p k.home k.low k.high k.free k.lies in
-    from about s t (taken s p id (with_item k.hand p k.home k.seen)) r so k.after
-    (subst (λ (x : HomeOf). GoesOver about s (taken s p id (with_item k.hand p x k.seen)) r so) same
-    (claim about s r id p k.hand (with_item k.hand p (home_at r.now r.journal p) k.seen) k.at k.high k.free (won_more about s r p id k.hand k.at k.seen k.low k.high k.free k.apart k.claiming)))
+    let same = same_home setup s r p k.home k.low k.high k.free k.lies in
+    from setup s t (taken s p id (with_item k.pass_view p k.home k.seen)) r so k.after
+    (subst (λ (x : VersionedStar). GoesOver setup s (taken s p id (with_item k.pass_view p x k.seen)) r so) same
+    (claim setup s r id p k.pass_view (with_item k.pass_view p (home_at r.now r.journal p) k.seen) k.at k.high k.free (won_more setup s r p id k.pass_view k.at k.seen k.low k.high k.free k.apart k.claiming)))
 
 pub journal_won : JournalWonLaw
-journal_won about s t r id k =
+journal_won setup s t r id k =
     let so : Core → Core → Type 0 = λ c next. Step c (event.Claim id 0) (Ok told.Claimed) next in
-    from about s t (taken s 0 id (with_journal k.hand k.book.entries)) r so k.after
-    (subst (λ (j : List JournalEntry). GoesOver about s (taken s 0 id (with_journal k.hand j)) r so) (same_entries about s r k.book k.free k.lies)
-    (claim about s r id 0 k.hand (with_journal k.hand r.journal) k.at (omega arith) k.free (fetched about s r id k.hand k.at k.free)))
+    from setup s t (taken s 0 id (with_journal k.pass_view k.book.entries)) r so k.after
+    (subst (λ (j : List JournalEntry). GoesOver setup s (taken s 0 id (with_journal k.pass_view j)) r so) (same_entries setup s r k.book k.free k.lies)
+    (claim setup s r id 0 k.pass_view (with_journal k.pass_view r.journal) k.at (omega arith) k.free (fetched setup s r id k.pass_view k.at k.free)))
 
 pub later_refused : LaterRefusedLaw
-later_refused about s t r id p k =
-    let u : Hand = counted k.hand p (get_or s.words p 0) in
-    from about s t (looked s id u) r (λ c next. Step c (event.Claim id p) (Err (refusal.Busy p (get_or s.words p 0))) next) k.after
-    (refusal_of about s r id p k.hand u k.at k.high k.apart k.busy (refused about s r p id k.hand k.at k.busy k.apart))
+later_refused setup s t r id p k =
+    let u : PassView = counted k.pass_view p (get_or s.words p 0) in
+    from setup s t (looked s id u) r (λ c next. Step c (event.Claim id p) (Err (refusal.Busy p (get_or s.words p 0))) next) k.after
+    (refusal_of setup s r id p k.pass_view u k.at k.high k.apart k.busy (refused setup s r p id k.pass_view k.at k.busy k.apart))
 
 pub release_law : ReleaseLaw
-release_law about s t r id p wide k =
-    let u : Hand = without_item k.hand p in
-    from about s t (put_home s p (Home k.home) id u) r (λ c next. Step c (event.Release id p) (Ok told.Released) next) k.after
-    (release about s r id p k.hand u (Home k.home) k.at k.held (released about s r p id k.hand k.at k.home wide k.low k.held k.known))
+release_law setup s t r id p wide k =
+    let u : PassView = without_item k.pass_view p in
+    from setup s t (put_home s p (Home k.home) id u) r (λ c next. Step c (event.Release id p) (Ok told.Released) next) k.after
+    (release setup s r id p k.pass_view u (Home k.home) k.at k.held (released setup s r p id k.pass_view k.at k.home wide k.low k.held k.known))
 
 pub leave_law : LeaveLaw
-leave_law about s t r id wide k =
-    let u : Hand = without_journal k.hand in
-    from about s t (put_home s 0 (Journal k.book) id u) r (λ c next. Step c (event.Release id 0) (Ok told.Released) next) k.after
-    (release about s r id 0 k.hand u (Journal k.book) k.at k.held (left about s r id k.hand k.at k.book wide k.held k.same))
+leave_law setup s t r id wide k =
+    let u : PassView = without_journal k.pass_view in
+    from setup s t (put_home s 0 (Journal k.book) id u) r (λ c next. Step c (event.Release id 0) (Ok told.Released) next) k.after
+    (release setup s r id 0 k.pass_view u (Journal k.book) k.at k.held (left setup s r id k.pass_view k.at k.book wide k.held k.same))
 
 pub hand_out_law : HandOutLaw
-hand_out_law about s t r id k =
+hand_out_law setup s t r id k =
     let so : Core → Core → Type 0 = λ c next. next ≡ c in
-    from about s t record { words = s.words; homes = s.homes; views = set s.views id (Main (one_more_pass k.chief)) ++ Pass (newcomer k.chief.start k.chief.places (length k.chief.back)) ∷ [] } r so k.after
+    from setup s t record { words = s.words; homes = s.homes; views = set s.views id (Main (one_more_pass k.main_view)) ++ Pass (newcomer k.main_view.start k.main_view.places (length k.main_view.back)) ∷ [] } r so k.after
     (subst
-    (λ (d : Chief). get_elem? s.views id ≡ some (Main d) → length d.back ≤ about.workers → GoesOver about s record { words = s.words; homes = s.homes; views = set s.views id (Main (one_more_pass d)) ++ Pass (newcomer d.start d.places (length d.back)) ∷ [] } r so)
-    (the_chief about s r id k.chief k.at)
-    (λ me room. over about s record { words = s.words; homes = s.homes; views = set s.views id (Main (one_more_pass r.chief)) ++ Pass (newcomer r.chief.start r.chief.places (length r.chief.back)) ∷ [] } r so r.journal (handed_out about s r id me room) refl) k.at k.room)
+    (λ (d : MainView). get_elem? s.views id ≡ some (Main d) → length d.back ≤ setup.workers → GoesOver setup s record { words = s.words; homes = s.homes; views = set s.views id (Main (one_more_pass d)) ++ Pass (newcomer d.start d.places (length d.back)) ∷ [] } r so)
+    (the_main_view setup s r id k.main_view k.at)
+    (λ me room. over setup s record { words = s.words; homes = s.homes; views = set s.views id (Main (one_more_pass r.main_view)) ++ Pass (newcomer r.main_view.start r.main_view.places (length r.main_view.back)) ∷ [] } r so r.journal (handed_out setup s r id me room) refl) k.at k.room)
 
 pub take_back_law : TakeBackLaw
-take_back_law about s t r id other k =
+take_back_law setup s t r id other k =
     let so : Core → Core → Type 0 = λ c next. next ≡ c in
-    from about s t record { words = s.words; homes = s.homes; views = set (set s.views id (Main (one_back k.chief k.hand))) other Spent } r so k.after
+    from setup s t record { words = s.words; homes = s.homes; views = set (set s.views id (Main (one_back k.main_view k.pass_view))) other Spent } r so k.after
     (subst
-    (λ (d : Chief). get_elem? s.views id ≡ some (Main d) → GoesOver about s record { words = s.words; homes = s.homes; views = set (set s.views id (Main (one_back d k.hand))) other Spent } r so)
-    (the_chief about s r id k.chief k.at)
-    (λ me. over about s record { words = s.words; homes = s.homes; views = set (set s.views id (Main (one_back r.chief k.hand))) other Spent } r so r.journal (taken_back about s r id other k.hand me k.theirs k.empty) refl) k.at)
+    (λ (d : MainView). get_elem? s.views id ≡ some (Main d) → GoesOver setup s record { words = s.words; homes = s.homes; views = set (set s.views id (Main (one_back d k.pass_view))) other Spent } r so)
+    (the_main_view setup s r id k.main_view k.at)
+    (λ me. over setup s record { words = s.words; homes = s.homes; views = set (set s.views id (Main (one_back r.main_view k.pass_view))) other Spent } r so r.journal (taken_back setup s r id other k.pass_view me k.theirs k.empty) refl) k.at)
 
 -- ---- a commit
 
@@ -175,43 +175,43 @@ abbrev Legally : Result (Unit {0}) Illegal → Result (Unit {0}) Illegal → Typ
 Legally a b = a ≡ b
 
 -- a worker makes legal flips on places that it owns, one after another
-module _ (about : About) (words : List ℕ) (journal : List JournalEntry) (worker : ℕ) (is : IsWorker (core_of about words journal) worker) where
+module _ (setup : Setup) (words : List ℕ) (journal : List JournalEntry) (worker : ℕ) (is : IsWorker (core_of setup words journal) worker) where
   abbrev start : Core
-  start = core_of about words journal
+  start = core_of setup words journal
 
   -- the core in which these flips are pending
   abbrev pub drafted : List Flip → Core
   drafted done = with_pending start worker done
 
   pub at_work : (done : List Flip) → IsWorker (drafted done) worker
-  at_work done = record { low = is.low; high = omega (arith, is.high, length-set {A = List Flip} (replicate about.workers []) (worker - 1) done) }
+  at_work done = record { low = is.low; high = omega (arith, is.high, length-set {A = List Flip} (replicate setup.workers []) (worker - 1) done) }
 
   pub pending_is : (done : List Flip) → pending_of (drafted done) worker ≡ done
-  pending_is done = get_or-set_same {A = List Flip} (replicate about.workers []) (worker - 1) done [] (omega (arith, is.low, is.high))
+  pending_is done = get_or-set_same {A = List Flip} (replicate setup.workers []) (worker - 1) done [] (omega (arith, is.low, is.high))
 
-  none_drafted : set {A = List Flip} (replicate about.workers []) (worker - 1) [] ≡ replicate about.workers []
-  none_drafted = ap (set {A = List Flip} (replicate about.workers []) (worker - 1)) (sym (nothing_pending about.workers (worker - 1))) ∙ set-get_or {A = List Flip} (replicate about.workers []) (worker - 1) []
+  none_drafted : set {A = List Flip} (replicate setup.workers []) (worker - 1) [] ≡ replicate setup.workers []
+  none_drafted = ap (set {A = List Flip} (replicate setup.workers []) (worker - 1)) (sym (nothing_pending setup.workers (worker - 1))) ∙ set-get_or {A = List Flip} (replicate setup.workers []) (worker - 1) []
 
   pub no_draft : drafted [] ≡ start
   no_draft = ap (λ (p : List (List Flip)). record start { pending = p }) none_drafted
 
   -- the draft is dropped
-  pub dropped : (done : List Flip) → set (drafted done).pending (worker - 1) [] ≡ replicate about.workers []
-  dropped done = set_twice (replicate about.workers []) (worker - 1) done [] ∙ none_drafted
+  pub dropped : (done : List Flip) → set (drafted done).pending (worker - 1) [] ≡ replicate setup.workers []
+  dropped done = set_twice (replicate setup.workers []) (worker - 1) done [] ∙ none_drafted
 
-  pub makes : (done fs : List Flip) (k m : Space) → replay (complex_of start) done ≡ Some k → replay k fs ≡ Some m → ((p : ℕ) → flips_touch p fs ≡ true → (p ≤ places_of start) × (owner_of start p ≡ worker)) → FlipsMade worker fs (drafted done) (drafted (done ++ fs))
+  pub makes : (done fs : List Flip) (k m : ComplexView) → replay (complex_of start) done ≡ Some k → replay k fs ≡ Some m → ((p : ℕ) → flips_touch p fs ≡ true → (p ≤ places_of start) × (owner_of start p ≡ worker)) → FlipsMade worker fs (drafted done) (drafted (done ++ fs))
   makes done [] k m e h mine = ap drafted (append-nil done)
   makes done (f ∷ fs) k m e h mine =
       let t = first_flip k m f fs h in
       let seen : seen_by (drafted done) worker ≡ k = ap (after (complex_of start)) (pending_is done) ∙ after_is (complex_of start) k done e in
-      let ok : why (seen_by (drafted done) worker) f.a f.b ≡ Ok tt = ap (λ (l : Space). why l f.a f.b) seen ∙ t.0 in
+      let ok : broken_rule (seen_by (drafted done) worker) f.a f.b ≡ Ok tt = ap (λ (l : ComplexView). broken_rule l f.a f.b) seen ∙ t.0 in
       let own : (p : ℕ) → flip_touches p f ≡ true → (p ≤ places_of start) × (owner_of start p ≡ worker) = λ p y. mine p (or_left (flip_touches p f) (flips_touch p fs) y) in
       let held : FlipHeld (drafted done) worker f = record {
         fits = record { places = λ p y. is_le p (places_of start) (own p y).0; shape = λ z. clash (sym ok ∙ z) };
         owned = λ p y. eq-eqb (owner_of start p) worker (own p y).1;
       } in
       let next : drafted (done ++ f ∷ []) ≡ with_pending (drafted done) worker (pending_of (drafted done) worker ++ f ∷ []) =
-      ap (λ (p : List (List Flip)). record start { pending = p }) (sym (ap (λ (l : List Flip). set (set (replicate about.workers []) (worker - 1) done) (worker - 1) (l ++ f ∷ [])) (pending_is done) ∙ set_twice (replicate about.workers []) (worker - 1) done (done ++ f ∷ []))) in (
+      ap (λ (p : List (List Flip)). record start { pending = p }) (sym (ap (λ (l : List Flip). set (set (replicate setup.workers []) (worker - 1) done) (worker - 1) (l ++ f ∷ [])) (pending_is done) ∙ set_twice (replicate setup.workers []) (worker - 1) done (done ++ f ∷ []))) in (
         drafted (done ++ f ∷ []),
         (at_work done, (held, ok, next)),
         subst (λ (l : List Flip). FlipsMade worker fs (drafted (done ++ f ∷ [])) (drafted l)) (append_assoc done (f ∷ []) fs)
@@ -224,46 +224,46 @@ module _ (about : About) (words : List ℕ) (journal : List JournalEntry) (worke
       clash : Legally (Ok tt) (Err Shape) → ⊥
       clash e = cc
 
-module _ (about : About) (s t : Board) (r : Ruled about s) (id : ℕ) (e : JournalEntry) (wide : length s.homes ≡ about.places + 1) (k : Writes about s t id e) where
-  worker : IsWorker (core_at about s r) id
-  worker = is_worker about s r id k.hand k.at
+module _ (setup : Setup) (s t : Board) (r : Ruled setup s) (id : ℕ) (e : JournalEntry) (wide : length s.homes ≡ setup.places + 1) (k : Writes setup s t id e) where
+  worker : IsWorker (core_at setup s r) id
+  worker = is_worker setup s r id k.pass_view k.at
 
   abbrev made : Core
-  made = drafted about s.words r.journal id worker e.flips
+  made = drafted setup s.words r.journal id worker e.flips
 
-  done : k.hand.mine ≡ mine r.journal about.round id
-  done = (r.past id k.hand k.at).entries
+  done : k.pass_view.mine ≡ mine r.journal setup.round id
+  done = (r.past id k.pass_view k.at).entries
 
   by : e.worker ≡ id
-  by = is_id about s r.journal r.now r.chief (firm_of about s r) id k.hand k.book e wide k.at k.held k.written k.short k.may done
+  by = is_id setup s r.journal r.now r.main_view (firm_of setup s r) id k.pass_view k.book e wide k.at k.held k.written k.short k.may done
 
-  entry : next_entry made about.round id ≡ e
-  entry = let seq = number about s r.journal r.now r.chief (firm_of about s r) id k.hand k.book e wide k.at k.held k.written k.short k.may done ∙ ap (λ (w : ℕ). length (of_worker r.journal w)) by in
-      λ i. record { round = (sym k.may.round_is) i; worker = (sym by) i; seq = (sym seq) i; flips = pending_is about s.words r.journal id worker e.flips i }
+  entry : next_entry made setup.round id ≡ e
+  entry = let seq = number setup s r.journal r.now r.main_view (firm_of setup s r) id k.pass_view k.book e wide k.at k.held k.written k.short k.may done ∙ ap (λ (w : ℕ). length (of_worker r.journal w)) by in
+      λ i. record { round = (sym k.may.round_is) i; worker = (sym by) i; seq = (sym seq) i; flips = pending_is setup s.words r.journal id worker e.flips i }
 
-  flips : FlipsMade id e.flips (core_at about s r) made
-  flips = subst (λ (c : Core). FlipsMade id e.flips c made) (no_draft about s.words r.journal id worker)
-      (makes about s.words r.journal id worker [] e.flips (complex_of (core_at about s r)) (now_after about s r id k.hand k.at e) refl
-      (ap (λ (l : Space). replay l e.flips) (after_is about.start.value r.now (flat r.journal) r.written.replays) ∙ legal about s r.journal r.now r.chief (firm_of about s r) id k.hand k.book e wide k.at k.held k.written k.short k.may done)
-      (λ p y. let o = on_places about s r.journal r.now r.chief (firm_of about s r) id k.hand k.book e wide k.at k.held k.written k.short k.may done p y in (place_there about s r p o.0, o.1)))
+  flips : FlipsMade id e.flips (core_at setup s r) made
+  flips = subst (λ (c : Core). FlipsMade id e.flips c made) (no_draft setup s.words r.journal id worker)
+      (makes setup s.words r.journal id worker [] e.flips (complex_of (core_at setup s r)) (now_after setup s r id k.pass_view k.at e) refl
+      (ap (λ (l : ComplexView). replay l e.flips) (after_is setup.start.value r.now (flat r.journal) r.written.replays) ∙ legal setup s r.journal r.now r.main_view (firm_of setup s r) id k.pass_view k.book e wide k.at k.held k.written k.short k.may done)
+      (λ p y. let o = on_places setup s r.journal r.now r.main_view (firm_of setup s r) id k.pass_view k.book e wide k.at k.held k.written k.short k.may done p y in (place_there setup s r p o.0, o.1)))
 
-  is_commit : IsCommit about.round id e (core_at about s r) (core_of about (set s.words 0 0) (r.journal ++ e ∷ []))
+  is_commit : IsCommit setup.round id e (core_at setup s r) (core_of setup (set s.words 0 0) (r.journal ++ e ∷ []))
   is_commit = record {
     made = made;
     flips = flips;
     entry = entry;
     commits = record {
-      worker_is = at_work about s.words r.journal id worker e.flips;
-      holds = (r.owned.owned id k.hand 0 k.at k.held).1;
-      some = λ z. let some = k.may.some in let none-of = ap length (sym (pending_is about s.words r.journal id worker e.flips) ∙ z) in absurd (omega arith);
-      next_is = λ i. record { start = about.start.value; owners = set s.words 0 0; pending = (sym (dropped about s.words r.journal id worker e.flips)) i; journal = r.journal ++ (sym entry) i ∷ [] };
+      worker_is = at_work setup s.words r.journal id worker e.flips;
+      holds = (r.owned.owned id k.pass_view 0 k.at k.held).1;
+      some = λ z. let some = k.may.some in let none-of = ap length (sym (pending_is setup s.words r.journal id worker e.flips) ∙ z) in absurd (omega arith);
+      next_is = λ i. record { start = setup.start.value; owners = set s.words 0 0; pending = (sym (dropped setup s.words r.journal id worker e.flips)) i; journal = r.journal ++ (sym entry) i ∷ [] };
     };
   }
 
 pub commit_law : CommitLaw
-commit_law about s t r id e wide k =
-    from about s t (put_home s 0 (Journal k.book) id (committed k.hand e k.seen)) r (IsCommit about.round id e) k.after
-    (over about s (put_home s 0 (Journal k.book) id (committed k.hand e k.seen)) r (IsCommit about.round id e) (r.journal ++ e ∷ []) (wrote about s r id k.hand k.at k.book e k.seen wide k.held k.written k.short k.may) (is_commit about s t r id e wide k))
+commit_law setup s t r id e wide k =
+    from setup s t (put_home s 0 (Journal k.book) id (committed k.pass_view e k.seen)) r (IsCommit setup.round id e) k.after
+    (over setup s (put_home s 0 (Journal k.book) id (committed k.pass_view e k.seen)) r (IsCommit setup.round id e) (r.journal ++ e ∷ []) (wrote setup s r id k.pass_view k.at k.book e k.seen wide k.held k.written k.short k.may) (is_commit setup s t r id e wide k))
 
 pub closed_law : ClosedLaw
-closed_law about id c words slots back f = closes about id (Main c) c words slots refl back f
+closed_law setup id c words slots back f = closes setup id (Main c) c words slots refl back f

@@ -3,31 +3,31 @@ use Rattle.std.proofs.Common.{◌≡◌, ◌≢◌, ◌⊎◌, ℕ, zero, suc, �
 use mathlib.Core.Option.{some, some-injective, some-ne-none}
 use lib.ListN.{get_elem?}
 use Rattle.atomic_table.proofs.Lists.{at_set}
-use Rattle.board_rule.specs.declared.view.Hand.{Hand}
-use Rattle.board_rule.specs.declared.view.Chief.{Chief}
+use Rattle.board_rule.specs.declared.view.PassView.{PassView}
+use Rattle.board_rule.specs.declared.view.MainView.{MainView}
 use Rattle.board_rule.specs.declared.view.View.{View}
 use Rattle.board_rule.specs.declared.view.View.TheVariants.{Main, Pass, Spent}
 
-pub same_pass : (u v : Hand) → Pass u ≡ Pass v → u ≡ v
+pub same_pass : (u v : PassView) → Pass u ≡ Pass v → u ≡ v
 same_pass u v e = cc
 
-pub same_main : (c d : Chief) → Main c ≡ Main d → c ≡ d
+pub same_main : (c d : MainView) → Main c ≡ Main d → c ≡ d
 same_main c d e = cc
 
-pub pass_main : {A : Type 0} (v : Hand) (c : Chief) → Pass v ≡ Main c → A
+pub pass_main : {A : Type 0} (v : PassView) (c : MainView) → Pass v ≡ Main c → A
 pass_main v c e = absurd (cc)
 
-pub pass_spent : {A : Type 0} (v : Hand) → Pass v ≡ Spent → A
+pub pass_spent : {A : Type 0} (v : PassView) → Pass v ≡ Spent → A
 pass_spent v e = absurd (cc)
 
-pub main_spent : {A : Type 0} (c : Chief) → Main c ≡ Spent → A
+pub main_spent : {A : Type 0} (c : MainView) → Main c ≡ Spent → A
 main_spent c e = absurd (cc)
 
 -- one view at one seat
 pub one_view : (views : List View) (i j : ℕ) (x y : View) → i ≡ j → get_elem? views i ≡ some x → get_elem? views j ≡ some y → x ≡ y
 one_view views i j x y e at there = some-injective x y (sym at ∙ (ap (λ (k : ℕ). get_elem? views k) e ∙ there))
 
-pub one_pass : (views : List View) (i j : ℕ) (u v : Hand) → i ≡ j → get_elem? views i ≡ some (Pass u) → get_elem? views j ≡ some (Pass v) → u ≡ v
+pub one_pass : (views : List View) (i j : ℕ) (u v : PassView) → i ≡ j → get_elem? views i ≡ some (Pass u) → get_elem? views j ≡ some (Pass v) → u ≡ v
 one_pass views i j u v e at there = same_pass u v (one_view views i j (Pass u) (Pass v) e at there)
 
 -- the seat is there
@@ -42,7 +42,7 @@ there (x ∷ xs) zero h = (x, refl)
 there (x ∷ xs) (suc i) h = there xs i (omega arith)
 
 -- who is at a seat after the seat id changed
-pub seated : (views : List View) (id w : ℕ) (x : View) (u : Hand) → get_elem? (set views id x) w ≡ some (Pass u) → ((w ≡ id) × (x ≡ Pass u)) ⊎ ((w ≢ id) × (get_elem? views w ≡ some (Pass u)))
+pub seated : (views : List View) (id w : ℕ) (x : View) (u : PassView) → get_elem? (set views id x) w ≡ some (Pass u) → ((w ≡ id) × (x ≡ Pass u)) ⊎ ((w ≢ id) × (get_elem? views w ≡ some (Pass u)))
 seated views id w x u h = at_set views id w x (Pass u) h
 
 -- a list with one more at its end

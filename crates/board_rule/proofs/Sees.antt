@@ -2,14 +2,14 @@
 use Rattle.std.proofs.Common.{ℕ}
 use Rattle.board_rule.specs.Views.{without_item, without_journal}
 use Rattle.board_rule.specs.Plays.{Sees}
-use Rattle.board_rule.specs.declared.view.Hand.{Hand}
+use Rattle.board_rule.specs.declared.view.PassView.{PassView}
 use Rattle.board_rule.proofs.Items.{item_without}
 
-pub sees_left : (v : Hand) → Sees v → Sees (without_journal v)
+pub sees_left : (v : PassView) → Sees v → Sees (without_journal v)
 sees_left v s = record { complex = s.complex; dim = s.dim; within = s.within; stars = s.stars; versions = s.versions }
 
 -- a place from 1 goes
-pub sees_less : (v : Hand) (p : ℕ) → Sees v → Sees (without_item v p)
+pub sees_less : (v : PassView) (p : ℕ) → Sees v → Sees (without_item v p)
 sees_less v p s = record {
   complex = s.complex;
   dim = s.dim;

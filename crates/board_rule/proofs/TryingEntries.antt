@@ -3,14 +3,14 @@ use Rattle.std.proofs.Common.{◌≡◌, ◌≢◌, ℕ, ◌+◌, ◌<◌, ◌�
 use Rattle.std.specs.List.{AllByRecursion}
 use Rattle.std.proofs.lemmas.List.{append-nil}
 use Rattle.std.proofs.lemmas.List.Elements.{filter-append}
-use Rattle.complex_core.specs.Spaces.{Space}
+use Rattle.complex_core.specs.Complexes.{ComplexView}
 use Rattle.flip_rules.specs.Entries.{JournalEntry}
 use Rattle.flip_rules.specs.Journals.{mine, touches}
 use Rattle.flip_rules.proofs.Journals.{touches-append}
 use Rattle.flip_world.specs.Cores.{of_worker}
 use Rattle.flip_world.specs.Serials.{numbers_from}
 use Rattle.board_rule.specs.Rule.{IsEntry, Written}
-use Rattle.board_rule.specs.declared.about.About.{About}
+use Rattle.board_rule.specs.declared.setup.Setup.{Setup}
 use Rattle.board_rule.proofs.Items.{tested}
 
 -- what holds of each holds of each of them
@@ -68,14 +68,14 @@ number_at n (x ∷ xs) ys e h = let s = number_at (n + 1) xs ys e (tails x.seq n
     tails x y xs ys e = cc
 
 -- no entry of a pass has the number that comes next
-pub no_next : (about : About) (words : List ℕ) (seats : ℕ) (journal : List JournalEntry) (now : Space) (w : ℕ) (before after : List JournalEntry) (e : JournalEntry)
-    → Written about words seats journal now → journal ≡ before ++ e ∷ after → e.worker ≡ w → e.seq < length (mine journal about.round w)
-no_next about words seats journal now w before after e k is by =
+pub no_next : (setup : Setup) (words : List ℕ) (seats : ℕ) (journal : List JournalEntry) (now : ComplexView) (w : ℕ) (before after : List JournalEntry) (e : JournalEntry)
+    → Written setup words seats journal now → journal ≡ before ++ e ∷ after → e.worker ≡ w → e.seq < length (mine journal setup.round w)
+no_next setup words seats journal now w before after e k is by =
     let all : of_worker journal w ≡ of_worker before w ++ e ∷ of_worker after w =
     ap (λ (l : List JournalEntry). of_worker l w) is
     ∙ (filter-append (λ (d : JournalEntry). eqb d.worker w) before (e ∷ after)
     ∙ ap (λ (b : Bool). of_worker before w ++ cond b (e ∷ of_worker after w) (of_worker after w)) (eq-eqb e.worker w by)) in
     let P : List JournalEntry → Type 0 = λ es. map (λ (d : JournalEntry). d.seq) es ≡ numbers_from 0 es in
     let seq : e.seq ≡ 0 + length (of_worker before w) = number_at 0 (of_worker before w) (of_worker after w) e (subst P all (k.serial.numbered w)) in
-    let len : length (mine journal about.round w) ≡ length (of_worker before w ++ e ∷ of_worker after w) = ap length (mine_all journal about.round about.places seats w k.entries ∙ all) in
+    let len : length (mine journal setup.round w) ≡ length (of_worker before w ++ e ∷ of_worker after w) = ap length (mine_all journal setup.round setup.places seats w k.entries ∙ all) in
     omega (arith, len, seq, length-append (of_worker before w) (e ∷ of_worker after w))

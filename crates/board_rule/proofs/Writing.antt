@@ -8,7 +8,7 @@ use Rattle.std.proofs.lemmas.List.{append-nil, length-replicate, get_or-replicat
 use Rattle.std.proofs.lemmas.List.Elements.{filter-append}
 use Rattle.complex_core.specs.Labels.{has, holds}
 use Rattle.complex_core.specs.Maps.{used}
-use Rattle.complex_core.specs.Spaces.{Space, IsComplex, is_held}
+use Rattle.complex_core.specs.Complexes.{ComplexView, IsComplex, is_held}
 use Rattle.complex_core.proofs.Faces.{equal_cmp}
 use Rattle.complex_core.proofs.Laws.{nat_eq_is}
 use Rattle.complex_core.proofs.Runs.{held_alike}
@@ -27,7 +27,7 @@ use Rattle.flip_world.proofs.Replays.{some_replay, flat_push}
 use Rattle.stars.specs.StarViews.{UsesUpTo}
 use Rattle.board_rule.specs.Rule.{core_of, IsEntry, Written}
 use Rattle.board_rule.specs.Ends.{Opens}
-use Rattle.board_rule.specs.declared.about.About.{About}
+use Rattle.board_rule.specs.declared.setup.Setup.{Setup}
 use Rattle.board_rule.specs.declared.data.Slot.{Slot}
 use Rattle.board_rule.proofs.Items.{off}
 use Rattle.complex_core.proofs.Members.{each_member}
@@ -47,11 +47,11 @@ abbrev pub Numbered : List JournalEntry → Type 0
 Numbered journal = (worker : ℕ) → map (λ (e : JournalEntry). e.seq) (of_worker journal worker) ≡ numbers_from 0 (of_worker journal worker)
 
 -- so it is serial where the journal replays and is numbered, whoever owns the places
-pub serial_of : (about : About) (words : List ℕ) (journal : List JournalEntry) (now : Space) → replay about.start.value (flat journal) ≡ Some now → Numbered journal → Serial (core_of about words journal)
-serial_of about words journal now replays numbered = record {
-  replays = some_replay about.start.value now (flat journal) replays;
-  pending = λ worker w. let k : Space = complex_of (core_of about words journal) in some_replay k k (pending_of (core_of about words journal) worker) (ap (replay k) (nothing_pending about.workers (worker - 1)));
-  owned = λ worker place w t. off (ap (flips_touch place) (sym (nothing_pending about.workers (worker - 1))) ∙ t);
+pub serial_of : (setup : Setup) (words : List ℕ) (journal : List JournalEntry) (now : ComplexView) → replay setup.start.value (flat journal) ≡ Some now → Numbered journal → Serial (core_of setup words journal)
+serial_of setup words journal now replays numbered = record {
+  replays = some_replay setup.start.value now (flat journal) replays;
+  pending = λ worker w. let k : ComplexView = complex_of (core_of setup words journal) in some_replay k k (pending_of (core_of setup words journal) worker) (ap (replay k) (nothing_pending setup.workers (worker - 1)));
+  owned = λ worker place w t. off (ap (flips_touch place) (sym (nothing_pending setup.workers (worker - 1))) ∙ t);
   numbered = numbered;
 }
 
@@ -61,21 +61,21 @@ wider_entries : (round places seats seats' : ℕ) (journal : List JournalEntry) 
 wider_entries round places seats seats' [] more h = tt
 wider_entries round places seats seats' (e ∷ es) more h = let one = h.0 in let high = one.high in (record { round_is = one.round_is; low = one.low; high = omega arith; some = one.some; few = one.few; labels = one.labels; faces = one.faces }, wider_entries round places seats seats' es more h.1)
 
-pub written_as : (about : About) (words words' : List ℕ) (seats seats' : ℕ) (journal : List JournalEntry) (now : Space) → seats ≤ seats' → Written about words seats journal now → Written about words' seats' journal now
-written_as about words words' seats seats' journal now more w = record {
-  serial = serial_of about words' journal now w.replays w.serial.numbered;
+pub written_as : (setup : Setup) (words words' : List ℕ) (seats seats' : ℕ) (journal : List JournalEntry) (now : ComplexView) → seats ≤ seats' → Written setup words seats journal now → Written setup words' seats' journal now
+written_as setup words words' seats seats' journal now more w = record {
+  serial = serial_of setup words' journal now w.replays w.serial.numbered;
   replays = w.replays;
   complex = w.complex;
   within = w.within;
-  entries = wider_entries about.round about.places seats seats' journal more w.entries;
+  entries = wider_entries setup.round setup.places seats seats' journal more w.entries;
   short = w.short;
 }
 
 -- ---- no entry yet
 
-pub written_first : (about : About) (words : List ℕ) (slots : List Slot) (seats : ℕ) → Opens about words slots → Written about words seats [] about.start.value
-written_first about words slots seats o = record {
-  serial = serial_of about words [] about.start.value refl (λ worker. refl);
+pub written_first : (setup : Setup) (words : List ℕ) (slots : List Slot) (seats : ℕ) → Opens setup words slots → Written setup words seats [] setup.start.value
+written_first setup words slots seats o = record {
+  serial = serial_of setup words [] setup.start.value refl (λ worker. refl);
   replays = refl;
   complex = o.complex;
   within = o.within;
@@ -105,7 +105,7 @@ has_used fs x = any-rising nat_cmp equal_cmp (λ y. nat_eq y x) _ ∙ flat fs
     flat (g ∷ gs) = has_append g (flat_map (λ f. f) gs) x ∙ (ap (λ b. b || has (flat_map (λ f. f) gs) x) (and_true (has g x)) ∙ ap (λ b. holds g (x ∷ []) || b) (flat gs))
 
 -- flips whose labels are at most n lead to a complex that uses no others
-pub uses_after : (k m : Space) (flips : List Flip) (n : ℕ) → IsComplex k → replay k flips ≡ Some m → ((p : ℕ) → flips_touch p flips ≡ true → p ≤ n) → UsesUpTo k n → UsesUpTo m n
+pub uses_after : (k m : ComplexView) (flips : List Flip) (n : ℕ) → IsComplex k → replay k flips ≡ Some m → ((p : ℕ) → flips_touch p flips ≡ true → p ≤ n) → UsesUpTo k n → UsesUpTo m n
 uses_after k m flips n c e touched w = each_member (λ x. x ≤ n) (used m.facets) (λ x t. by x t (flips_touch x flips) refl)
   where
     by : (x : ℕ) → has (used m.facets) x ≡ true → (b : Bool) → flips_touch x flips ≡ b → x ≤ n
@@ -134,16 +134,16 @@ mine_of_worker round places seats (e ∷ es) w h =
     ∙ ap (λ (l : List JournalEntry). cond (nat_eq e.worker w) (e ∷ l) l) rest
 
 -- an entry is written of which the flips are legal now and stand on places
-pub written_more : (about : About) (words words' : List ℕ) (seats : ℕ) (journal : List JournalEntry) (e : JournalEntry) (now end : Space) → Written about words seats journal now → IsEntry about.round about.places seats e → e.seq ≡ length (of_worker journal e.worker)
-    → AllByRecursion OfFaces e.flips → replay now e.flips ≡ Some end → ((p : ℕ) → flips_touch p e.flips ≡ true → p ≤ about.places) → length (journal ++ e ∷ []) < 2 ^ 64
-    → Written about words' seats (journal ++ e ∷ []) end
-written_more about words words' seats journal e now end w entry seq faces legal places short =
-    let replays : replay about.start.value (flat (journal ++ e ∷ [])) ≡ Some end = ap (replay about.start.value) (flat_push journal e) ∙ (replay-append about.start.value now (flat journal) e.flips w.replays ∙ legal) in
+pub written_more : (setup : Setup) (words words' : List ℕ) (seats : ℕ) (journal : List JournalEntry) (e : JournalEntry) (now end : ComplexView) → Written setup words seats journal now → IsEntry setup.round setup.places seats e → e.seq ≡ length (of_worker journal e.worker)
+    → AllByRecursion OfFaces e.flips → replay now e.flips ≡ Some end → ((p : ℕ) → flips_touch p e.flips ≡ true → p ≤ setup.places) → length (journal ++ e ∷ []) < 2 ^ 64
+    → Written setup words' seats (journal ++ e ∷ []) end
+written_more setup words words' seats journal e now end w entry seq faces legal places short =
+    let replays : replay setup.start.value (flat (journal ++ e ∷ [])) ≡ Some end = ap (replay setup.start.value) (flat_push journal e) ∙ (replay-append setup.start.value now (flat journal) e.flips w.replays ∙ legal) in
     record {
-      serial = serial_of about words' (journal ++ e ∷ []) end replays (numbered_push journal e seq w.serial.numbered);
+      serial = serial_of setup words' (journal ++ e ∷ []) end replays (numbered_push journal e seq w.serial.numbered);
       replays = replays;
       complex = complex_replayed now end e.flips w.complex faces legal;
-      within = uses_after now end e.flips about.places w.complex legal places w.within;
-      entries = each_append (IsEntry about.round about.places seats) journal (e ∷ []) w.entries (entry, tt);
+      within = uses_after now end e.flips setup.places w.complex legal places w.within;
+      entries = each_append (IsEntry setup.round setup.places seats) journal (e ∷ []) w.entries (entry, tt);
       short = short;
     }

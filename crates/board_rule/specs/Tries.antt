@@ -3,7 +3,7 @@ use Rattle.std.specs.Prelude.{◌≡◌, ℕ, ◌+◌, Bool, true, false, cond, 
 use mathlib.Core.Option.{Option, some, none}
 use Rattle.std.specs.List.{list_any}
 use Rattle.board_rule.specs.Items.{has_item}
-use Rattle.board_rule.specs.declared.data.Home.{Home}
+use Rattle.board_rule.specs.declared.data.VersionedStar.{VersionedStar}
 
 pub record Try : Type 0 where
   -- the mark: the place of the first claim, whether it was won, and the version that was won or the owner that was found
@@ -16,10 +16,10 @@ pub record Try : Type 0 where
   pub last : ℕ
   pub owner : ℕ
   -- the note: the items that were won, and how many entries the pass had then
-  pub note : List (ℕ × Home)
+  pub note : List (ℕ × VersionedStar)
   pub count : ℕ
 
-abbrev pub won_try : ℕ → Home → ℕ → Try
+abbrev pub won_try : ℕ → VersionedStar → ℕ → Try
 won_try p x n = record { place = p; won = true; found = x.version; vertices = 0; journal = 0; last = 0; owner = 0; note = (p, x) ∷ []; count = n }
 
 abbrev pub lost_try : ℕ → ℕ → ℕ → Try
@@ -38,7 +38,7 @@ abbrev pub Unrefused : ℕ → ℕ → Type 0
 Unrefused vertices journal = (vertices ≡ 0) × (journal ≡ 0)
 
 -- a won place is noted
-abbrev pub noted_at : ℕ → Home → Try → Try
+abbrev pub noted_at : ℕ → VersionedStar → Try → Try
 noted_at p x t = record t { note = (p, x) ∷ t.note }
 
 -- the latest try changes
@@ -46,7 +46,7 @@ abbrev pub at_last : (Try → Try) → List Try → List Try
 at_last f [] = []
 at_last f (t ∷ ts) = f t ∷ ts
 
-abbrev pub last_note : List Try → List (ℕ × Home)
+abbrev pub last_note : List Try → List (ℕ × VersionedStar)
 last_note [] = []
 last_note (t ∷ ts) = t.note
 

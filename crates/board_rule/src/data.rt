@@ -8,7 +8,7 @@ use std::marker::Model;
 
 /// What lies at a place from 1: its star, and how many entries of the journal touch the place.
 #[derive(Drop)]
-pub struct Home {
+pub struct VersionedStar {
     /// The star of the place.
     pub star: Star,
     /// The number of entries that touch it.
@@ -80,7 +80,7 @@ pub enum Slot {
     /// The journal.
     Journal(OpenJournal),
     /// A star with its version.
-    Home(Home),
+    Home(VersionedStar),
     /// A pass took out what was there.
     Out,
 }

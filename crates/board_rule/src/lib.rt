@@ -5,15 +5,15 @@
 //! slots, and about what each worker knows. It holds between any two steps.
 #![tactic(auto)]
 
-mod about;
+mod setup;
 mod data;
 mod kept;
 mod laws;
 mod rule;
 mod view;
 
-pub use about::About;
-pub use data::{Home, OpenJournal, Slot};
+pub use setup::Setup;
+pub use data::{VersionedStar, OpenJournal, Slot};
 pub use kept::Kept;
 pub use laws::{
     closed_board_is_lawful, commit_is_lawful, first_claim_is_lawful, later_claim_is_lawful,
@@ -22,4 +22,4 @@ pub use laws::{
 pub use rule::{
     ClaimFirst, ClaimJournal, ClaimStar, Commit, HandOut, Leave, Release, Ruling, TakeBack,
 };
-pub use view::{Chief, Hand, View};
+pub use view::{MainView, PassView, View};

@@ -3,7 +3,7 @@ ghost use Rattle.board_rule.specs.Rule.{Ruled, opener};
 ghost use Rattle.board_rule.specs.Plays.{began, claimed, fetched, released, left, wrote, handed, given, gathered};
 ghost use Rattle.board_rule.specs.declared.view.View.TheVariants.{Spent};
 
-use crate::about::About;
+use crate::setup::Setup;
 use crate::data::Slot;
 use crate::view::View;
 use atomic_table::{Join, Play, Split, TableRule};
@@ -11,7 +11,7 @@ use atomic_table::{Join, Play, Split, TableRule};
 /// The rule of a board.
 pub struct Ruling;
 
-impl TableRule<Slot, View, About> for Ruling {
+impl TableRule<Slot, View, Setup> for Ruling {
     ghost holds = { Ruled };
 
     ghost first = { opener };

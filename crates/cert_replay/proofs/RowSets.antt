@@ -14,16 +14,16 @@ use Rattle.std.proofs.lemmas.Map.Keys.{any_passes_from_place}
 use Rattle.std.proofs.lemmas.List.Kept.{IsStrictlySortedBy-filter}
 use Rattle.complex_core.specs.Labels.{has, holds, face_cmp, IsFace}
 use Rattle.complex_core.specs.Rising.{rising}
-use Rattle.complex_core.specs.Spaces.{Space, IsComplex, IsFacet, over, is_facet, is_held}
+use Rattle.complex_core.specs.Complexes.{ComplexView, IsComplex, IsFacet, over, is_facet, is_held}
 use Rattle.complex_core.specs.ComplexFaults.{FacetsRefused, first_size}
 use Rattle.complex_core.specs.declared.complex.ComplexFault.{ComplexFault}
 use Rattle.complex_core.specs.declared.complex.ComplexFault.TheVariants.{Empty, Limit, Mixed, Memory}
 use Rattle.complex_core.proofs.Sets.{Above, above_head, above_tail, above_cons, sorted_none, sorted_rising}
 use Rattle.complex_core.proofs.Faces.{cmp_equal}
 use Rattle.complex_core.proofs.Laws.{both_ways, nat_eq_is, nat_eq_same, nat_eq_swap, or_left, or_right, listed-filter, listed-rising, same_lists, same_sets_is, same_set_itself, holds_has}
-use Rattle.flip_rules.specs.Flips.{sides, has_shape, link_is, why, why_near, flipped}
+use Rattle.flip_rules.specs.Flips.{join_boundary, has_shape, link_is, broken_rule, broken_rule_near, flipped}
 use Rattle.flip_rules.proofs.Legal.{verdict}
-use Rattle.flip_rules.proofs.Near.{why_seen}
+use Rattle.flip_rules.proofs.Near.{broken_rule_seen}
 use Rattle.flip_rules.proofs.Links.{listed-flipped}
 use Rattle.flip_rules.proofs.Replays.{complex_flipped}
 use Rattle.cert_replay.specs.Rows.{Row, row_cmp, AreRowsOf, facets_in, facets_at, Puts, Takes}
@@ -166,7 +166,7 @@ some_label d [] h = absurd (omega (arith, h.size))
 some_label d (x ∷ xs) h = (x, or_left _ _ (nat_eq_same x))
 
 -- rows of a complex tell its facets
-pub facets_told : (k : Space) (rows : BTreeSet Row) → IsComplex k → AreRowsOf k.facets rows → facets_in rows ≡ k.facets
+pub facets_told : (k : ComplexView) (rows : BTreeSet Row) → IsComplex k → AreRowsOf k.facets rows → facets_in rows ≡ k.facets
 facets_told k rows h are =
     same_lists (facets_in rows) k.facets (sorted_rising nat_list_cmp_total (map (λ (r : Row). r.1) rows.keys)) h.rising (λ f.
     listed-rising (map (λ (r : Row). r.1) rows.keys) f
@@ -174,16 +174,16 @@ facets_told k rows h are =
     (λ t. let w : (x : ℕ) × (contains row_cmp rows (x, f) ≡ true) = row_found f rows.keys t in first_so (is_facet k.facets f) (has f w.0) (sym (are.each w.0 f) ∙ w.1))
     (λ t. let w : (x : ℕ) × (has f x ≡ true) = some_label k.dim f (one_listed (IsFacet k.dim) k.facets f h.pure t) in facet_found w.0 f rows.keys (are.each w.0 f ∙ (λ i. t i && w.1 i))))
 
-abbrev pub seen : ℕ → BTreeSet Row → Space
+abbrev pub seen : ℕ → BTreeSet Row → ComplexView
 seen d rows = record { dim = d; facets = facets_in rows }
 
-pub seen_is : (k : Space) (d : ℕ) (rows : BTreeSet Row) → d ≡ k.dim → IsComplex k → AreRowsOf k.facets rows → seen d rows ≡ k
+pub seen_is : (k : ComplexView) (d : ℕ) (rows : BTreeSet Row) → d ≡ k.dim → IsComplex k → AreRowsOf k.facets rows → seen d rows ≡ k
 seen_is k d rows e h are = λ i. record { dim = e i; facets = facets_told k rows h are i }
 
-pub seen_keeps : (k : Space) (d : ℕ) (rows : BTreeSet Row) → d ≡ k.dim → IsComplex k → AreRowsOf k.facets rows → AreRowsOf (facets_in rows) rows × IsComplex (seen d rows)
+pub seen_keeps : (k : ComplexView) (d : ℕ) (rows : BTreeSet Row) → d ≡ k.dim → IsComplex k → AreRowsOf k.facets rows → AreRowsOf (facets_in rows) rows × IsComplex (seen d rows)
 seen_keeps k d rows e h are =
     let P : List (List ℕ) → Type 0 = λ fs. AreRowsOf fs rows in
-    let Q : Space → Type 0 = λ l. IsComplex l in
+    let Q : ComplexView → Type 0 = λ l. IsComplex l in
     (subst P (sym (facets_told k rows h are)) are, subst Q (sym (seen_is k d rows e h are)) h)
 
 -- ---- the rows of a complex are built
@@ -213,25 +213,25 @@ flip_table true false a s = by_false s a
     by_false false false = refl
 flip_table false h a s = refl
 
-pub rows_flipped : (k : Space) (a b : List ℕ) (out : List (List ℕ)) (rows mid new : BTreeSet Row) → AreRowsOf k.facets rows → out ≡ over k.facets a → Takes out rows mid → Puts (sides b a) mid new → AreRowsOf (flipped k a b).facets new
+pub rows_flipped : (k : ComplexView) (a b : List ℕ) (out : List (List ℕ)) (rows mid new : BTreeSet Row) → AreRowsOf k.facets rows → out ≡ over k.facets a → Takes out rows mid → Puts (join_boundary b a) mid new → AreRowsOf (flipped k a b).facets new
 rows_flipped k a b out rows mid new are e takes puts = record {
   each = λ x f.
       puts.each x f
-      ∙ ap (λ t. t || (is_facet (sides b a) f && has f x)) (takes.each x f ∙ (λ i. are.each x f i && not (is_facet (e i) f && has f x)) ∙ ap (λ t. (is_facet k.facets f && has f x) && not (t && has f x)) (listed-filter (λ g. holds g a) k.facets f))
-      ∙ flip_table (is_facet k.facets f) (has f x) (holds f a) (is_facet (sides b a) f)
+      ∙ ap (λ t. t || (is_facet (join_boundary b a) f && has f x)) (takes.each x f ∙ (λ i. are.each x f i && not (is_facet (e i) f && has f x)) ∙ ap (λ t. (is_facet k.facets f && has f x) && not (t && has f x)) (listed-filter (λ g. holds g a) k.facets f))
+      ∙ flip_table (is_facet k.facets f) (has f x) (holds f a) (is_facet (join_boundary b a) f)
       ∙ ap (λ t. t && has f x) (sym (listed-flipped k a b f));
 }
 
 -- rows of the complex after a flip
-pub record FlipKept (k : Space) (d : ℕ) (a b : List ℕ) (new : BTreeSet Row) : Type 0 where
+pub record FlipKept (k : ComplexView) (d : ℕ) (a b : List ℕ) (new : BTreeSet Row) : Type 0 where
   pub keeps : AreRowsOf (facets_in new) new × IsComplex (seen d new)
   pub is : seen d new ≡ flipped k a b
 
 -- ---- what a program has of them
 
 -- a label of a set tells the facets over it
-pub over_told : (k : Space) (d : ℕ) (rows : BTreeSet Row) (x : ℕ) (set : List ℕ) → seen d rows ≡ k → AreRowsOf (facets_in rows) rows → IsStrictlySortedBy row_cmp rows.keys → has set x ≡ true → over (facets_at x rows) set ≡ over k.facets set
-over_told k d rows x set e are o t = over_at (facets_in rows) rows x set are (sorted_rising nat_list_cmp_total (map (λ (r : Row). r.1) rows.keys)) o t ∙ ap (λ (l : Space). over l.facets set) e
+pub over_told : (k : ComplexView) (d : ℕ) (rows : BTreeSet Row) (x : ℕ) (set : List ℕ) → seen d rows ≡ k → AreRowsOf (facets_in rows) rows → IsStrictlySortedBy row_cmp rows.keys → has set x ≡ true → over (facets_at x rows) set ≡ over k.facets set
+over_told k d rows x set e are o t = over_at (facets_in rows) rows x set are (sorted_rising nat_list_cmp_total (map (λ (r : Row). r.1) rows.keys)) o t ∙ ap (λ (l : ComplexView). over l.facets set) e
 
 pub last_has : (set shown : List ℕ) (i x : ℕ) (r : Option (Bor ℕ)) → shown ≡ set → option_copied r ≡ slice_get shown i → option_copied r ≡ Some x → has set x ≡ true
 last_has set shown i x r e p q = let h : slice_get set i ≡ Some x = ap (λ (xs : List ℕ). slice_get xs i) (sym e) ∙ sym p ∙ q in any_passes_from_place (λ y. nat_eq y x) set i x h (nat_eq_same x)
@@ -245,15 +245,15 @@ if_ok_rises items p (Ok v) s h = let P : List (List ℕ) → Type 0 = λ fs. IsS
 if_ok_rises items p (Err x) s h = h
 
 -- the facets over A and over B tell the first rule that a flip breaks
-pub why_told : (k : Space) (d : ℕ) (near_a near_b : List (List ℕ)) (a b : List ℕ) → d ≡ k.dim → (0 < length a → near_a ≡ over k.facets a) → (0 < length b → near_b ≡ over k.facets b) → why_near d near_a near_b a b ≡ why k a b
-why_told k d near_a near_b [] b e p q = refl
-why_told k d near_a near_b (x ∷ xs) [] e p q =
+pub broken_rule_told : (k : ComplexView) (d : ℕ) (near_a near_b : List (List ℕ)) (a b : List ℕ) → d ≡ k.dim → (0 < length a → near_a ≡ over k.facets a) → (0 < length b → near_b ≡ over k.facets b) → broken_rule_near d near_a near_b a b ≡ broken_rule k a b
+broken_rule_told k d near_a near_b [] b e p q = refl
+broken_rule_told k d near_a near_b (x ∷ xs) [] e p q =
     let n : has_shape d (x ∷ xs) [] ≡ false = and_false (not (nat_eq (length (x ∷ xs)) 0)) in
     let m : has_shape k.dim (x ∷ xs) [] ≡ false = and_false (not (nat_eq (length (x ∷ xs)) 0)) in
     ap (λ t. verdict t (is_held near_a (x ∷ xs)) (link_is near_a (x ∷ xs) []) (is_held near_b [])) n
     ∙ sym (ap (λ t. verdict t (is_held k.facets (x ∷ xs)) (link_is k.facets (x ∷ xs) []) (is_held k.facets [])) m)
-why_told k d near_a near_b (x ∷ xs) (y ∷ ys) e p q =
-    why_seen k d near_a near_b (x ∷ xs) (y ∷ ys) (record {
+broken_rule_told k d near_a near_b (x ∷ xs) (y ∷ ys) e p q =
+    broken_rule_seen k d near_a near_b (x ∷ xs) (y ∷ ys) (record {
       dim = sym e;
       first = ap (λ fs. over fs (x ∷ xs)) (p (omega arith)) ∙ over_twice k.facets (x ∷ xs);
       second = ap (λ fs. over fs (y ∷ ys)) (q (omega arith)) ∙ over_twice k.facets (y ∷ ys);
@@ -270,7 +270,7 @@ first_facet d [] h a = absurd (omega (arith, h))
 first_facet d (f ∷ fs) h a = a.0.size
 
 -- the complex that is made of the facets of all rows
-pub complex_told : (self made : Space) (d : ℕ) (rows : BTreeSet Row) (items shown : List (List ℕ)) → seen d rows ≡ self → IsComplex (seen d rows) → items ≡ map (λ (r : Row). r.1) rows.keys → shown ≡ items → made.facets ≡ rising face_cmp shown → made.dim ≡ first_size shown - 1 → made ≡ self
+pub complex_told : (self made : ComplexView) (d : ℕ) (rows : BTreeSet Row) (items shown : List (List ℕ)) → seen d rows ≡ self → IsComplex (seen d rows) → items ≡ map (λ (r : Row). r.1) rows.keys → shown ≡ items → made.facets ≡ rising face_cmp shown → made.dim ≡ first_size shown - 1 → made ≡ self
 complex_told self made d rows items shown e h p q fs dim =
     let all : shown ≡ map (λ (r : Row). r.1) rows.keys = q ∙ p in
     let size : first_size (map (λ (r : Row). r.1) rows.keys) ≡ d + 1 = first_facet d (map (λ (r : Row). r.1) rows.keys) (some_before_rising (map (λ (r : Row). r.1) rows.keys) h.some) (each_before_rising (IsFacet d) (map (λ (r : Row). r.1) rows.keys) h.pure) in
@@ -279,10 +279,10 @@ complex_told self made d rows items shown e h p q fs dim =
     let n : made.facets ≡ facets_in rows = fs ∙ ap (rising face_cmp) all in
     (λ i. record { dim = m i; facets = n i }) ∙ e
 
-other_size : (d place : ℕ) (fs : List (List ℕ)) → AllByRecursion (IsFacet d) fs → place < length fs → length (get_or fs place []) ≡ d + 1
-other_size d place [] a h = absurd (omega (arith, h))
+other_size : (d position : ℕ) (fs : List (List ℕ)) → AllByRecursion (IsFacet d) fs → position < length fs → length (get_or fs position []) ≡ d + 1
+other_size d position [] a h = absurd (omega (arith, h))
 other_size d zero (f ∷ fs) a h = a.0.size
-other_size d (suc place) (f ∷ fs) a h = other_size d place fs a.1 (omega arith)
+other_size d (suc position) (f ∷ fs) a h = other_size d position fs a.1 (omega arith)
 
 -- which can't be refused but for want of memory
 pub never_refused : (d : ℕ) (rows : BTreeSet Row) (items shown : List (List ℕ)) (e : ComplexFault) → IsComplex (seen d rows) → items ≡ map (λ (r : Row). r.1) rows.keys → shown ≡ items → FacetsRefused shown e → e ≡ Memory
@@ -294,16 +294,16 @@ never_refused d rows items shown e h p q r =
     by_fault : (e : ComplexFault) (fs : List (List ℕ)) → 0 < length fs → AllByRecursion (IsFacet d) fs → FacetsRefused fs e → e ≡ Memory
     by_fault Empty fs n a r = let z : length fs ≡ 0 = ap length r in absurd (omega (arith, n, z))
     by_fault (Limit m) fs n a r = let z : first_size fs ≡ d + 1 = first_facet d fs n a in elim r.2 [ inl t ↦ absurd (omega (arith, r.1, z, t)) | inr t ↦ absurd (omega (arith, h.low, r.1, z, t)) ]
-    by_fault (Mixed place) fs n a r = absurd (r.1.there (other_size d place fs a r.1.inside ∙ sym (first_facet d fs n a)))
+    by_fault (Mixed position) fs n a r = absurd (r.1.there (other_size d position fs a r.1.inside ∙ sym (first_facet d fs n a)))
     by_fault Memory fs n a r = refl
 
 -- ---- the complex after a flip
 
-pub flip_keeps : (k : Space) (d : ℕ) (a b : List ℕ) (out shown : List (List ℕ)) (rows mid new : BTreeSet Row) → seen d rows ≡ k → AreRowsOf (facets_in rows) rows → IsComplex (seen d rows) → IsFace a → IsFace b → why k a b ≡ Ok tt → out ≡ over k.facets a → shown ≡ out → Takes shown rows mid → Puts (sides b a) mid new → FlipKept k d a b new
+pub flip_keeps : (k : ComplexView) (d : ℕ) (a b : List ℕ) (out shown : List (List ℕ)) (rows mid new : BTreeSet Row) → seen d rows ≡ k → AreRowsOf (facets_in rows) rows → IsComplex (seen d rows) → IsFace a → IsFace b → broken_rule k a b ≡ Ok tt → out ≡ over k.facets a → shown ≡ out → Takes shown rows mid → Puts (join_boundary b a) mid new → FlipKept k d a b new
 flip_keeps k d a b out shown rows mid new e are h fa fb w p q takes puts =
-    let P : Space → Type 0 = λ l. AreRowsOf l.facets rows in
-    let Q : Space → Type 0 = λ l. IsComplex l in
-    let dim : d ≡ k.dim = ap (λ (l : Space). l.dim) e in
+    let P : ComplexView → Type 0 = λ l. AreRowsOf l.facets rows in
+    let Q : ComplexView → Type 0 = λ l. IsComplex l in
+    let dim : d ≡ k.dim = ap (λ (l : ComplexView). l.dim) e in
     let c : IsComplex (flipped k a b) = complex_flipped k a b (subst Q e h) fa fb w in
     let r : AreRowsOf (flipped k a b).facets new = rows_flipped k a b shown rows mid new (subst P e are) (q ∙ p) takes puts in
     record { keeps = seen_keeps (flipped k a b) d new dim c r; is = seen_is (flipped k a b) d new dim c r }

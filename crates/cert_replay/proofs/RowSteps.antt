@@ -11,7 +11,7 @@ use Rattle.cert_replay.proofs.RowOrder.{same_row}
 use Rattle.std.proofs.lemmas.List.{get_or_default}
 use Rattle.complex_core.proofs.Members.{taken_more}
 
--- ---- a place in a list
+-- ---- a position in a list
 
 pub taken_all : {X : Type 0} (xs : List X) (i : ℕ) → length xs ≤ i → take i xs ≡ xs
 taken_all [] zero h = refl

@@ -1,7 +1,7 @@
 -- Flips one after another.
 use Rattle.std.proofs.Common.{◌≡◌, ℕ, ◌+◌, ◌<◌, zero, suc, take, drop, get_or, List, [], ◌∷◌, ◌++◌, length, Some, Ok, Err, sym, ◌∙◌, ap, refl, arith}
-use Rattle.complex_core.specs.Spaces.{Space}
-use Rattle.flip_rules.specs.Flips.{why, flipped, replay}
+use Rattle.complex_core.specs.Complexes.{ComplexView}
+use Rattle.flip_rules.specs.Flips.{broken_rule, flipped, replay}
 use Rattle.flip_rules.specs.Certificates.{IsFirstIllegal}
 use Rattle.flip_rules.specs.declared.flip.Flip.{Flip}
 use Rattle.flip_rules.specs.declared.flip.Illegal.{Illegal}
@@ -19,17 +19,17 @@ taken_length (y ∷ ys) zero h = refl
 taken_length (y ∷ ys) (suc i) h = let e : length (take i ys) ≡ i = taken_length ys i (omega arith) in omega (arith, e)
 
 -- one more legal flip
-pub replay_step : (k mid new : Space) (flips : List Flip) (place : ℕ) (f : Flip) → replay k (take place flips) ≡ Some mid → place < length flips → f ≡ get_or flips place f → why mid f.a f.b ≡ Ok tt → new ≡ flipped mid f.a f.b → replay k (take (place + 1) flips) ≡ Some new
-replay_step k mid new flips place f e n t w c = ap (replay k) (taken_more flips place f n t) ∙ replay_then k mid (take place flips) f e w ∙ ap (λ l. Some l) (sym c)
+pub replay_step : (k mid new : ComplexView) (flips : List Flip) (position : ℕ) (f : Flip) → replay k (take position flips) ≡ Some mid → position < length flips → f ≡ get_or flips position f → broken_rule mid f.a f.b ≡ Ok tt → new ≡ flipped mid f.a f.b → replay k (take (position + 1) flips) ≡ Some new
+replay_step k mid new flips position f e n t w c = ap (replay k) (taken_more flips position f n t) ∙ replay_then k mid (take position flips) f e w ∙ ap (λ l. Some l) (sym c)
 
 -- the first one that isn't
-pub first_illegal : (k mid : Space) (flips : List Flip) (place : ℕ) (f : Flip) (reason : Illegal) → replay k (take place flips) ≡ Some mid → place < length flips → f ≡ get_or flips place f → why mid f.a f.b ≡ Err reason → IsFirstIllegal k flips (place + 1) reason
-first_illegal k mid flips place f reason e n t w = record {
-  before = take place flips;
+pub first_illegal : (k mid : ComplexView) (flips : List Flip) (position : ℕ) (f : Flip) (reason : Illegal) → replay k (take position flips) ≡ Some mid → position < length flips → f ≡ get_or flips position f → broken_rule mid f.a f.b ≡ Err reason → IsFirstIllegal k flips (position + 1) reason
+first_illegal k mid flips position f reason e n t w = record {
+  before = take position flips;
   flip = f;
-  after = drop (place + 1) flips;
-  are = split_there flips place f n t;
-  counted = let l : length (take place flips) ≡ place = taken_length flips place n in omega (arith, l);
+  after = drop (position + 1) flips;
+  are = split_there flips position f n t;
+  counted = let l : length (take position flips) ≡ position = taken_length flips position n in omega (arith, l);
   there = mid;
   replays = e;
   breaks = w;

@@ -8,7 +8,7 @@ use Rattle.std.specs.Cmp.Lexicographic.{pointwise}
 use Rattle.std.proofs.lemmas.List.Folds.{list_any-append}
 use Rattle.complex_core.specs.Labels.{has}
 use Rattle.complex_core.specs.Maps.{used}
-use Rattle.complex_core.specs.Spaces.{Space, IsComplex, IsFacet, is_held, is_face}
+use Rattle.complex_core.specs.Complexes.{ComplexView, IsComplex, IsFacet, is_held, is_face}
 use Rattle.complex_core.proofs.Sets.{any-rising, above_head}
 use Rattle.complex_core.proofs.Faces.{equal_cmp, less_cmp}
 use Rattle.complex_core.proofs.Laws.{nat_eq_same, or_left, or_right}
@@ -17,7 +17,7 @@ use Rattle.flip_rules.specs.Boundaries.{IsBoundary}
 use Rattle.flip_rules.specs.declared.flip.Flip.{Flip}
 use Rattle.flip_rules.specs.declared.flip.Illegal.{Illegal}
 use Rattle.flip_rules.proofs.Links.{same_lists_is, same_lists_from}
-use Rattle.cert_text.specs.Claims.{OfVertex, of_vertex}
+use Rattle.cert_text.specs.Statements.{OfVertex, of_vertex}
 use Rattle.cert_replay.specs.Answers.{link_at, ShowsLink, NamesVertices, IsListAnswer, all_flips, LinksShown, LinkBreaks, LinkEndsElsewhere}
 use Rattle.cert_replay.specs.declared.judge.Replayed.{Replayed}
 use Rattle.cert_replay.specs.declared.judge.Replayed.TheVariants.{Valid, Bad, WrongEnd}
@@ -28,11 +28,11 @@ use Rattle.complex_core.proofs.Members.{taken_more}
 
 -- ---- two complexes are one
 
-pub same_spaces : (k l : Space) (d e : ℕ) (fs gs : List (List ℕ)) (t : Bool) → d ≡ k.dim → e ≡ l.dim → d ≡ e → fs ≡ k.facets → gs ≡ l.facets → t ≡ pointwise (pointwise nat_eq) fs gs → (IsTrue t → k ≡ l) × (k ≡ l → IsTrue t)
-same_spaces k l d e fs gs t p q s u v w =
+pub same_complexes : (k l : ComplexView) (d e : ℕ) (fs gs : List (List ℕ)) (t : Bool) → d ≡ k.dim → e ≡ l.dim → d ≡ e → fs ≡ k.facets → gs ≡ l.facets → t ≡ pointwise (pointwise nat_eq) fs gs → (IsTrue t → k ≡ l) × (k ≡ l → IsTrue t)
+same_complexes k l d e fs gs t p q s u v w =
     let dims : k.dim ≡ l.dim = sym p ∙ s ∙ q in (
       λ h. let f : k.facets ≡ l.facets = sym u ∙ same_lists_is fs gs (sym w ∙ h) ∙ v in λ i. record { dim = dims i; facets = f i },
-      λ h. w ∙ same_lists_from fs gs (u ∙ ap (λ (m : Space). m.facets) h ∙ sym v),
+      λ h. w ∙ same_lists_from fs gs (u ∙ ap (λ (m : ComplexView). m.facets) h ∙ sym v),
     )
 
 -- ---- a used label
@@ -61,14 +61,14 @@ held_positive d x (f ∷ fs) a h = by_case (has f x) refl (held_positive d x fs 
     by_case false e rest t = rest t
 
 -- and at least 1
-pub used_positive : (k : Space) (x : ℕ) → IsComplex k → has (used k.facets) x ≡ true → 0 < x
+pub used_positive : (k : ComplexView) (x : ℕ) → IsComplex k → has (used k.facets) x ≡ true → 0 < x
 used_positive k x h t = held_positive k.dim x k.facets h.pure (used_held k.facets x t)
 
 pub none_where : {T : Type 0} (r : Option T) (P : Type 0) (v : T) → SomeIff r P v → r ≡ None → P → ⊥
 none_where (Some t) P v h e p = cc
 none_where None P v h e p = h p
 
--- ---- a place in the lists
+-- ---- a position in the lists
 
 abbrev pub Entry : Type 0
 Entry = ℕ × Vec Flip
@@ -109,48 +109,48 @@ all_flips-push (w ∷ ws) v =
 
 -- ---- one list is judged
 
--- the lists before this one show what they claim, and have so many flips
-pub record ShownSoFar (k : Space) (lists : List Entry) (i flips : ℕ) : Type 0 where
+-- the lists before this one show what they state, and have so many flips
+pub record ShownSoFar (k : ComplexView) (lists : List Entry) (i flips : ℕ) : Type 0 where
   pub shown : AllByRecursion (ShowsLink k) (map of_vertex (take i lists))
   pub counted : flips ≡ all_flips (map of_vertex (take i lists))
 
--- what a program has when it has judged the list at a place
-pub record Judged (k : Space) (lists : List Entry) (i : ℕ) (x : Entry) (r : Replayed) : Type 0 where
+-- what a program has when it has judged the list at a position
+pub record Judged (k : ComplexView) (lists : List Entry) (i : ℕ) (x : Entry) (r : Replayed) : Type 0 where
   pub inside : i < length lists
   pub there : x ≡ get_or lists i x
   pub answer : IsListAnswer IsBoundary (link_at k x.0) x.1.items r
 
-pub judged : (k link : Space) (lists : List Entry) (i : ℕ) (x : Entry) (flips : List Flip) (r : Replayed) → i < length lists → x ≡ get_or lists i x → link ≡ link_at k x.0 → flips ≡ x.1.items → IsListAnswer IsBoundary link flips r → Judged k lists i x r
+pub judged : (k link : ComplexView) (lists : List Entry) (i : ℕ) (x : Entry) (flips : List Flip) (r : Replayed) → i < length lists → x ≡ get_or lists i x → link ≡ link_at k x.0 → flips ≡ x.1.items → IsListAnswer IsBoundary link flips r → Judged k lists i x r
 judged k link lists i x flips r h e p q a =
-    let P : Space → Type 0 = λ l. IsListAnswer IsBoundary l flips r in
+    let P : ComplexView → Type 0 = λ l. IsListAnswer IsBoundary l flips r in
     let Q : List Flip → Type 0 = λ fs. IsListAnswer IsBoundary (link_at k x.0) fs r in
     record { inside = h; there = e; answer = subst Q q (subst P p a) }
 
-answered : (k : Space) (flips : List Flip) (r s : Replayed) → r ≡ s → IsListAnswer IsBoundary k flips r → IsListAnswer IsBoundary k flips s
+answered : (k : ComplexView) (flips : List Flip) (r s : Replayed) → r ≡ s → IsListAnswer IsBoundary k flips r → IsListAnswer IsBoundary k flips s
 answered k flips r s e a = let P : Replayed → Type 0 = λ t. IsListAnswer IsBoundary k flips t in subst P e a
 
-pub shown_more : (k : Space) (lists : List Entry) (i : ℕ) (x : Entry) (r : Replayed) (so_far more facets new : ℕ) → ShownSoFar k lists i so_far → Judged k lists i x r → r ≡ Valid more facets → new ≡ so_far + more → ShownSoFar k lists (i + 1) new
+pub shown_more : (k : ComplexView) (lists : List Entry) (i : ℕ) (x : Entry) (r : Replayed) (so_far more facets new : ℕ) → ShownSoFar k lists i so_far → Judged k lists i x r → r ≡ Valid more facets → new ≡ so_far + more → ShownSoFar k lists (i + 1) new
 shown_more k lists i x r so_far more facets new s j e n =
     let a : IsListAnswer IsBoundary (link_at k x.0) x.1.items (Valid more facets) = answered (link_at k x.0) x.1.items r (Valid more facets) e j.answer in
     let l : map of_vertex (take (i + 1) lists) ≡ map of_vertex (take i lists) ++ of_vertex x ∷ [] = more_lists lists i x j.inside j.there in
     let P : List OfVertex → Type 0 = λ vs. AllByRecursion (ShowsLink k) vs in
     let c : new ≡ all_flips (map of_vertex (take i lists)) + length x.1.items = n ∙ (λ t. s.counted t + a.counted t) in
     record {
-      shown = subst P (sym l) (each_append (ShowsLink k) (map of_vertex (take i lists)) (of_vertex x ∷ []) s.shown (record { end = a.end; replays = a.replays; boundary = a.claimed }, tt));
+      shown = subst P (sym l) (each_append (ShowsLink k) (map of_vertex (take i lists)) (of_vertex x ∷ []) s.shown (record { end = a.end; replays = a.replays; boundary = a.stated }, tt));
       counted = c ∙ sym (all_flips-push (map of_vertex (take i lists)) (of_vertex x)) ∙ ap all_flips (sym l);
     }
 
-pub link_breaks : (k : Space) (lists : List Entry) (i : ℕ) (x : Entry) (r : Replayed) (so_far index number : ℕ) (fault : Illegal) → NamesVertices k (map of_vertex lists) → ShownSoFar k lists i so_far → Judged k lists i x r → r ≡ Bad index fault → number ≡ so_far + index → LinkBreaks k (map of_vertex lists) number fault
+pub link_breaks : (k : ComplexView) (lists : List Entry) (i : ℕ) (x : Entry) (r : Replayed) (so_far index number : ℕ) (fault : Illegal) → NamesVertices k (map of_vertex lists) → ShownSoFar k lists i so_far → Judged k lists i x r → r ≡ Bad index fault → number ≡ so_far + index → LinkBreaks k (map of_vertex lists) number fault
 link_breaks k lists i x r so_far index number fault v s j e n = record {
   before = map of_vertex (take i lists);
   list = of_vertex x;
   fails = record { vertices = v; after = map of_vertex (drop (i + 1) lists); are = split_lists lists i x j.inside j.there; shown = s.shown };
-  place = index;
+  position = index;
   breaks = answered (link_at k x.0) x.1.items r (Bad index fault) e j.answer;
   counted = n ∙ ap (λ m. m + index) s.counted;
 }
 
-pub link_elsewhere : (k : Space) (lists : List Entry) (i : ℕ) (x : Entry) (r : Replayed) (so_far : ℕ) → NamesVertices k (map of_vertex lists) → ShownSoFar k lists i so_far → Judged k lists i x r → r ≡ WrongEnd → LinkEndsElsewhere k (map of_vertex lists)
+pub link_elsewhere : (k : ComplexView) (lists : List Entry) (i : ℕ) (x : Entry) (r : Replayed) (so_far : ℕ) → NamesVertices k (map of_vertex lists) → ShownSoFar k lists i so_far → Judged k lists i x r → r ≡ WrongEnd → LinkEndsElsewhere k (map of_vertex lists)
 link_elsewhere k lists i x r so_far v s j e = record {
   before = map of_vertex (take i lists);
   list = of_vertex x;
@@ -162,7 +162,7 @@ map_length : {X Y : Type 0} (f : X → Y) (xs : List X) → length xs ≡ length
 map_length f [] = refl
 map_length f (x ∷ xs) = let e : length xs ≡ length (map f xs) = map_length f xs in omega (arith, e)
 
-pub links_shown : (k : Space) (lists : List Entry) (i flips : ℕ) → NamesVertices k (map of_vertex lists) → length lists ≤ i → ShownSoFar k lists i flips → LinksShown k (map of_vertex lists) flips (length lists)
+pub links_shown : (k : ComplexView) (lists : List Entry) (i flips : ℕ) → NamesVertices k (map of_vertex lists) → length lists ≤ i → ShownSoFar k lists i flips → LinksShown k (map of_vertex lists) flips (length lists)
 links_shown k lists i flips v h s =
     let e : take i lists ≡ lists = taken_all lists i h in
     let P : List Entry → Type 0 = λ vs. AllByRecursion (ShowsLink k) (map of_vertex vs) in

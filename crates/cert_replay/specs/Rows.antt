@@ -6,7 +6,7 @@ use Rattle.std.specs.declared.cmp.Ordering.{Ordering}
 use Rattle.std.specs.declared.ops.Bound.TheVariants.{Included, Excluded}
 use Rattle.complex_core.specs.Labels.{has, face_cmp}
 use Rattle.complex_core.specs.Rising.{rising}
-use Rattle.complex_core.specs.Spaces.{is_facet}
+use Rattle.complex_core.specs.Complexes.{is_facet}
 
 -- a label, and a facet that has it
 abbrev pub Row : Type 0

@@ -2,8 +2,8 @@
 ghost use Rattle.std.specs.Prelude.{◌≡◌, ◌<◌, ◌∷◌, [], length, map, IfOk, OnOk, IfErr, Ok};
 ghost use Rattle.std.specs.List.Sorted.{IsStrictlySortedBy};
 ghost use Rattle.complex_core.specs.Labels.{face_cmp};
-ghost use Rattle.complex_core.specs.Spaces.{Space, over};
-ghost use Rattle.flip_rules.specs.Flips.{why, flipped, CanPut, FlipRefused, OfFaces};
+ghost use Rattle.complex_core.specs.Complexes.{ComplexView, over};
+ghost use Rattle.flip_rules.specs.Flips.{broken_rule, flipped, CanPut, FlipRefused, OfFaces};
 ghost use Rattle.std.specs.BTreeSet.{IsOrdered};
 ghost use Rattle.cert_replay.specs.Rows.{row_cmp, facets_at, Puts, Takes};
 
@@ -25,10 +25,10 @@ pub(crate) struct FacetSet {
 }
 
 impl Model for FacetSet {
-    ghost use Rattle.complex_core.specs.Spaces.{Space, IsComplex};
+    ghost use Rattle.complex_core.specs.Complexes.{ComplexView, IsComplex};
     ghost use Rattle.cert_replay.specs.Rows.{AreRowsOf, facets_in};
 
-    ghost Value = { Space };
+    ghost Value = { ComplexView };
 
     ghost view = { λ s. record { dim = s.dim; facets = facets_in s.rows } };
 
@@ -128,11 +128,11 @@ impl FacetSet {
 
     // The facets that contain A, which a legal flip takes out, or why the flip isn't made.
     fn check(&self, alloc: Global, flip: &Flip) -> Result<Vec<Face>, FlipFault>
-        ensures legal { OnOk result (why self.now flip.now.a flip.now.b ≡ Ok tt) }
+        ensures legal { OnOk result (broken_rule self.now flip.now.a flip.now.b ≡ Ok tt) }
         ensures out { IfOk result (λ v. v.items ≡ over self.now.facets flip.now.a) }
         ensures can { OnOk result (CanPut self.now.dim flip.now.a flip.now.b) }
         ensures faces { OnOk result (OfFaces flip.now) }
-        ensures why { IfErr result (FlipRefused (why self.now flip.now.a flip.now.b)) }
+        ensures broken_rule { IfErr result (FlipRefused (broken_rule self.now flip.now.a flip.now.b)) }
     {
         let Ok(over_a) = self.over(alloc, &flip.a) else {
             return Err(FlipFault::Memory);
@@ -148,9 +148,9 @@ impl FacetSet {
 
     // The facets after a flip, or why it isn't made: it breaks a rule, or for want of memory.
     pub(crate) fn flipped(self, alloc: Global, flip: &Flip) -> Result<FacetSet, FlipFault>
-        ensures legal { OnOk result (why self flip.now.a flip.now.b ≡ Ok tt) }
+        ensures legal { OnOk result (broken_rule self flip.now.a flip.now.b ≡ Ok tt) }
         ensures ok { IfOk result (λ s. s ≡ flipped self flip.now.a flip.now.b) }
-        ensures why { IfErr result (FlipRefused (why self flip.now.a flip.now.b)) }
+        ensures broken_rule { IfErr result (FlipRefused (broken_rule self flip.now.a flip.now.b)) }
     {
         let out = self.check(alloc, flip)?;
         let more = Sides::of(&flip.b, &flip.a);

@@ -3,11 +3,11 @@ ghost use Rattle.std.specs.Prelude.{◌≡◌, ◌↔◌, ◌≤◌, ◌+◌, If
 ghost use Rattle.complex_core.specs.Labels.{has};
 ghost use Rattle.complex_core.specs.Maps.{used};
 ghost use Rattle.flip_rules.specs.Boundaries.{IsBoundary};
-ghost use Rattle.cert_text.specs.Claims.{claim, of_vertex};
+ghost use Rattle.cert_text.specs.Statements.{statement, of_vertex};
 ghost use Rattle.cert_replay.specs.Answers.{Certifies, HasLinks, IsAnswer, IsListAnswer, IsListsAnswer, IsTakenTo, IsValid, NamesVertices, link_at};
 ghost use Rattle.cert_replay.specs.declared.judge.Replayed.TheVariants.{Valid};
 
-use crate::list::{Outcome, replay_flips};
+use crate::outcome::{Outcome, replay_flips};
 use cert_text::Certificate;
 use complex_core::{Complex, Face, VertexMap};
 use flip_rules::{Flip, Illegal, is_simplex_boundary};
@@ -16,14 +16,14 @@ use std::alloc::{AllocError, Global};
 /// What a certificate comes to.
 #[derive(Clone, Copy, Debug, PartialEq, Eq)]
 pub enum Replayed {
-    /// The certificate shows what it claims. It has so many flips, over all lists. For a sphere and
+    /// The certificate shows what it states. It has so many flips, over all lists. For a sphere and
     /// an equivalence `facets` is how many facets the end has, for a manifold how many lists there
     /// are.
     Valid { flips: u64, facets: u64 },
     /// The flip with this number, counted from 1 over all lists, is the first illegal one, and this
     /// is the first rule that it breaks.
-    Bad { index: u64, fault: Illegal },
-    /// The flips are legal in order, and the end isn't the one that is claimed; or the lists of a
+    Bad { number: u64, fault: Illegal },
+    /// The flips are legal in order, and the end isn't the one that is stated; or the lists of a
     /// manifold aren't those of exactly the vertices, rising.
     WrongEnd,
 }
@@ -34,7 +34,7 @@ fn replay_sphere(alloc: Global, complex: &Complex, flips: &[Flip]) -> Result<Rep
 {
     let end = match replay_flips(alloc, complex, flips)? {
         Outcome::End(end) => end,
-        Outcome::Bad(index, fault) => return Ok(Replayed::Bad { index, fault }),
+        Outcome::Bad(number, fault) => return Ok(Replayed::Bad { number, fault }),
     };
     if is_simplex_boundary(&end) {
         Ok(valid(flips, &end))
@@ -55,7 +55,7 @@ fn replay_equal(
 {
     let end = match replay_flips(alloc, complex, flips)? {
         Outcome::End(end) => end,
-        Outcome::Bad(index, fault) => return Ok(Replayed::Bad { index, fault }),
+        Outcome::Bad(number, fault) => return Ok(Replayed::Bad { number, fault }),
     };
     if is_taken(&end, map, target)? {
         Ok(valid(flips, &end))
@@ -64,7 +64,7 @@ fn replay_equal(
     }
 }
 
-// The flips end as claimed.
+// The flips end as stated.
 fn valid(flips: &[Flip], end: &Complex) -> Replayed
     ensures { result ≡ Valid (length flips.now) (length end.now.facets) }
 {
@@ -115,8 +115,8 @@ fn names_vertices(complex: &Complex, lists: &[(u16, Vec<Flip>)]) -> Result<bool,
     if labels.len() != lists.len() {
         return Ok(false);
     }
-    for (place, list) in lists.iter().enumerate() {
-        if list.0 != labels[place] {
+    for (position, list) in lists.iter().enumerate() {
+        if list.0 != labels[position] {
             return Ok(false);
         }
     }
@@ -138,9 +138,9 @@ fn replay_lists(
         let link = link_of(complex, list.0)?;
         match replay_sphere(alloc, &link, &list.1)? {
             Replayed::Valid { flips: more, .. } => flips = sum(flips, more)?,
-            Replayed::Bad { index, fault } => {
-                let index = sum(flips, index)?;
-                return Ok(Replayed::Bad { index, fault });
+            Replayed::Bad { number, fault } => {
+                let number = sum(flips, number)?;
+                return Ok(Replayed::Bad { number, fault });
             }
             Replayed::WrongEnd => return Ok(Replayed::WrongEnd),
         }
@@ -178,8 +178,8 @@ fn sum(first: u64, second: u64) -> Result<u64, AllocError>
 /// Replays the flips of a certificate from a complex, and judges what they show of it. A
 /// certificate of a manifold needs a complex of dimension at least 1, whose vertices have links.
 ///
-/// `Valid` is answered exactly where the certificate shows what it claims, `Bad` at the first
-/// illegal flip. Where all flips are legal and the end isn't the one that is claimed, it is
+/// `Valid` is answered exactly where the certificate shows what it states, `Bad` at the first
+/// illegal flip. Where all flips are legal and the end isn't the one that is stated, it is
 /// `WrongEnd`. A certificate of a manifold is `WrongEnd` too where its lists aren't those of exactly
 /// the used labels, rising; else the first list that fails decides.
 ///
@@ -190,11 +190,11 @@ pub fn replay(
     complex: &Complex,
     certificate: &Certificate,
 ) -> Result<Replayed, AllocError>
-    requires { HasLinks complex.now (claim certificate.now) }
-    ensures answer { IfOk result (IsAnswer complex.now (claim certificate.now)) }
+    requires { HasLinks complex.now (statement certificate.now) }
+    ensures answer { IfOk result (IsAnswer complex.now (statement certificate.now)) }
 
-    // Valid is exactly that the certificate shows what it claims.
-    ensures valid { IfOk result (λ r. IsValid r ↔ Certifies complex.now (claim certificate.now)) }
+    // Valid is exactly that the certificate shows what it states.
+    ensures valid { IfOk result (λ r. IsValid r ↔ Certifies complex.now (statement certificate.now)) }
 {
     match certificate {
         Certificate::Sphere(flips) => replay_sphere(alloc, complex, flips),

@@ -8,7 +8,7 @@
 mod facet_set;
 mod judge;
 mod laws;
-mod list;
+mod outcome;
 
 pub use judge::{Replayed, replay};
 pub use laws::answer_law;

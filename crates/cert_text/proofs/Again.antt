@@ -20,9 +20,9 @@ use Rattle.line_text.specs.Flips.{flip_at}
 use Rattle.line_text.specs.Writing.{HasSides, flip_text}
 use Rattle.line_text.specs.declared.label.Labels.TheVariants.{UpTo}
 use Rattle.line_text.proofs.LineLaws.{feed_start}
-use Rattle.line_text.proofs.Again.{decimal_number, feed_first, flip_again, flip_start, number_begins, number_first, space_first, word_first}
-use Rattle.cert_text.specs.Claims.{Claim, OfVertex, Sphere, Equal, Manifold}
-use Rattle.complex_core.specs.Spaces.{Space}
+use Rattle.line_text.proofs.Again.{decimal_number, feed_first, flip_again, flip_start, number_begins, number_first, complex_first, word_first}
+use Rattle.cert_text.specs.Statements.{Statement, OfVertex, Sphere, Equal, Manifold}
+use Rattle.complex_core.specs.Complexes.{ComplexView}
 use Rattle.facet_text.specs.Tokens.{has, tokens_past}
 use Rattle.facet_text.specs.Writing as facet
 use Rattle.facet_text.specs.Writing.{to_semicolon}
@@ -87,7 +87,7 @@ first_number at n is small =
 next_number : (at n c : ℕ) (rest : List ℕ) → n ≤ 4294967295 → is_blank c ≡ true
     → number_at (items_past 0 at (32 ∷ decimal n ++ c ∷ rest)) ≡ Ok (Some n, at + 1, items_past 0 (at + 1 + length (decimal n)) (c ∷ rest))
 next_number at n c rest small blank =
-    ap number_at (space_first at (decimal n ++ c ∷ rest) ∙ number_first (at + 1) n c rest small blank)
+    ap number_at (complex_first at (decimal n ++ c ∷ rest) ∙ number_first (at + 1) n c rest small blank)
     ∙ first_number (at + 1) n (items_past 0 (at + 1 + length (decimal n)) (c ∷ rest)) small
 
 next_count : (at n c : ℕ) (rest : List ℕ) → n ≤ 4294967295 → is_blank c ≡ true
@@ -312,12 +312,12 @@ version_read : (at : ℕ) (rest : List ℕ) → version_at (items_past 0 at (32 
 unfolding version_at of_line number_at is_digit ◌>>=◌
 version_read at rest =
     let two : at + 1 + 1 ≡ at + 2 = omega arith in
-    rw (space_first at (49 ∷ 32 ∷ rest), word_first (at + 1) (49 ∷ []) 32 rest (omega arith) (refl, tt) refl, two) refl
+    rw (complex_first at (49 ∷ 32 ∷ rest), word_first (at + 1) (49 ∷ []) 32 rest (omega arith) (refl, tt) refl, two) refl
 
 kind_read : (kind : List ℕ) (k : Kind) (at : ℕ) (rest : List ℕ) → IsWord kind → kind_of kind ≡ Some k → kind_at (items_past 0 at (32 ∷ kind ++ 10 ∷ rest)) ≡ Ok (k, items_past 0 (at + 1 + length kind) (10 ∷ rest))
 unfolding kind_at
 kind_read kind k at rest good is =
-    ap kind_at (space_first at (kind ++ 10 ∷ rest) ∙ word_first (at + 1) kind 10 rest good.some good.solid refl) ∙ rw is refl
+    ap kind_at (complex_first at (kind ++ 10 ∷ rest) ∙ word_first (at + 1) kind 10 rest good.some good.solid refl) ∙ rw is refl
 
 first_word : IsWord (codes "bistellar")
 first_word = record { some = omega arith; solid = (refl, (refl, (refl, (refl, (refl, (refl, (refl, (refl, (refl, tt))))))))) }
@@ -332,14 +332,14 @@ word_read name is rest good on =
 header_again : (kind : List ℕ) (k : Kind) (at end : ℕ) (rest : List ℕ) → IsWord kind → kind_of kind ≡ Some k → end + 1 ≡ at + length (header_text kind)
     → header_at (items_past 0 at (header_text kind ++ rest)) ≡ Ok (k, items_past 0 end (10 ∷ rest))
 unfolding header_at
-header_again kind k at end rest good is place =
+header_again kind k at end rest good is offset =
     let text : header_text kind ++ rest ≡ codes "bistellar" ++ 32 ∷ 49 ∷ 32 ∷ (kind ++ 10 ∷ rest) =
     append_assoc (codes "bistellar 1 ") (kind ++ 10 ∷ []) rest ∙ ap (λ (t : List ℕ). codes "bistellar 1 " ++ t) (append_assoc kind (10 ∷ []) rest) in
     let on : GoesOn (items_past 0 at (header_text kind ++ rest)) (codes "bistellar" ++ 32 ∷ 49 ∷ 32 ∷ (kind ++ 10 ∷ rest)) =
     record { at = at; same = ap (λ (bs : List ℕ). line_start (items_past 0 at bs)) text } in
     let start = word_read (codes "bistellar") (items_past 0 at (header_text kind ++ rest)) (49 ∷ 32 ∷ (kind ++ 10 ∷ rest)) first_word on in
     let middle = at + length (codes "bistellar") in
-    let there : middle + 2 + 1 + length kind ≡ end = omega (arith, place, length-append kind (10 ∷ [])) in
+    let there : middle + 2 + 1 + length kind ≡ end = omega (arith, offset, length-append kind (10 ∷ [])) in
     first_read _ _ _ start
     ∙ first_read _ _ _ (version_read middle (kind ++ 10 ∷ rest))
     ∙ first_read _ _ _ (kind_read kind k (middle + 2) rest good is)
@@ -368,7 +368,7 @@ no_semicolon : (flips : List Flip) (rest : List ℕ) → to_semicolon (10 ∷ (f
 unfolding flips_text has
 no_semicolon flips rest = refl
 
-target_again : (front after : List ℕ) (k : Space) → facet.KeepsLimits k → to_semicolon after ≡ 0
+target_again : (front after : List ℕ) (k : ComplexView) → facet.KeepsLimits k → to_semicolon after ≡ 0
     → target_at (front ++ (10 ∷ facet.text_of k.facets ++ after)) (items_past 0 (length front) (10 ∷ facet.text_of k.facets ++ after))
     ≡ Ok (k, items_past 0 (length front + 1 + length (facet.text_of k.facets)) after)
 unfolding target_at
@@ -382,15 +382,15 @@ target_again front after k keeps none =
     let longer : bytes ≡ fed ++ text ++ after = whole ∙ sym (append_assoc fed text after) in
     let here : drop at bytes ≡ 10 ∷ (text ++ after) = drop_at front (10 ∷ (text ++ after)) at refl in
     let next : drop (at + 1) bytes ≡ text ++ after = ap (drop (at + 1)) whole ∙ drop_at fed (text ++ after) (at + 1) (sym len) in
-    let place : length fed + length text + to_semicolon after ≡ at + 1 + length text = omega (arith, none, len) in
+    let offset : length fed + length text + to_semicolon after ≡ at + 1 + length text = omega (arith, none, len) in
     let read : complex_at bytes at ≡ Ok (k, at + 1 + length text) =
     blank_before bytes at (text ++ after) here next ∙ ap (λ (bs : List ℕ). complex_at bs (at + 1)) longer
-    ∙ ap (complex_at (fed ++ text ++ after)) len ∙ read_again fed after k keeps ∙ ap (λ (p : ℕ). Ok (k, p)) place in
+    ∙ ap (complex_at (fed ++ text ++ after)) len ∙ read_again fed after k keeps ∙ ap (λ (p : ℕ). Ok (k, p)) offset in
     let last : drop (at + 1 + length text) bytes ≡ after =
     ap (drop (at + 1 + length text)) longer ∙ drop_at (fed ++ text) after (at + 1 + length text) (omega (arith, length-append fed text, len)) in
     rw (feed_first at (text ++ after), read, last) refl
 
-equal_again : (front : List ℕ) (k : Space) (flips : List Flip) (pairs : List (ℕ × ℕ)) → facet.KeepsLimits k → AreFlips flips → ArePairs pairs
+equal_again : (front : List ℕ) (k : ComplexView) (flips : List Flip) (pairs : List (ℕ × ℕ)) → facet.KeepsLimits k → AreFlips flips → ArePairs pairs
     → (bytes : List ℕ) → bytes ≡ front ++ (10 ∷ facet.text_of k.facets ++ (10 ∷ flips_text flips ++ map_text pairs))
     → equal_at bytes (items_past 0 (length front) (10 ∷ facet.text_of k.facets ++ (10 ∷ flips_text flips ++ map_text pairs))) ≡ Ok (Equal k flips pairs)
 unfolding equal_at ◌>>=◌
@@ -414,7 +414,7 @@ equal_word = record { some = omega arith; solid = (refl, (refl, (refl, (refl, (r
 manifold_word : IsWord (codes "manifold")
 manifold_word = record { some = omega arith; solid = (refl, (refl, (refl, (refl, (refl, (refl, (refl, (refl, tt)))))))) }
 
-pub certificate_again : (before : List ℕ) (c : Claim) → KeepsLimits c → certificate_at (before ++ text_of c) (length before) ≡ Ok c
+pub certificate_again : (before : List ℕ) (c : Statement) → KeepsLimits c → certificate_at (before ++ text_of c) (length before) ≡ Ok c
 unfolding certificate_at body_at text_of
 certificate_again before (Sphere flips) good =
     let at = length before in

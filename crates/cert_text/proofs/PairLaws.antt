@@ -42,7 +42,7 @@ none_before (p ∷ ps) (suc i) d differ lt =
       both_false (nat_eq_swap p.1 (get_or ps i d).1 ∙ second) more.1,
     )
 
-pub never_twice : (ps : List (ℕ × ℕ)) (place : ℕ) → Differ ps → IsFirstTwice ps place → ⊥
-never_twice ps place differ is =
-    let none = none_before ps place (0, 0) differ is.inside in
+pub never_twice : (ps : List (ℕ × ℕ)) (offset : ℕ) → Differ ps → IsFirstTwice ps offset → ⊥
+never_twice ps offset differ is =
+    let none = none_before ps offset (0, 0) differ is.inside in
     true≢false (sym is.there ∙ both_false none.0 none.1)

@@ -3,7 +3,7 @@ use Rattle.std.specs.Prelude.{◌==◌, ℕ, List, [], ◌∷◌, Option, Some, 
 use Rattle.std.specs.Str.{bytes_eq}
 use Rattle.complex_core.specs.Maps.{pair_cmp}
 use Rattle.complex_core.specs.Rising.{rising}
-use Rattle.complex_core.specs.Spaces.{Space}
+use Rattle.complex_core.specs.Complexes.{ComplexView}
 use Rattle.facet_text.specs.Grammar as facet
 use Rattle.facet_text.specs.Grammar.{complex_at}
 use Rattle.facet_text.specs.Lines.{Item, items, line_end, word}
@@ -13,7 +13,7 @@ use Rattle.cert_text.specs.declared.fault.CertFault.{CertFault}
 use Rattle.cert_text.specs.declared.fault.CertFault.TheVariants as fault
 use Rattle.cert_text.specs.declared.read.Kind.{Kind}
 use Rattle.cert_text.specs.declared.read.Kind.TheVariants as kind
-use Rattle.cert_text.specs.Claims.{Claim, OfVertex, Sphere, Equal, Manifold}
+use Rattle.cert_text.specs.Statements.{Statement, OfVertex, Sphere, Equal, Manifold}
 use Rattle.cert_text.specs.Readings.{Reading, ◌>>=◌, of_line, so_many}
 use Rattle.cert_text.specs.Lines.{counted, ended, flip_line, is_vertex, none_more, nothing_left, pair_line, stated, vertex_at, word_at}
 
@@ -83,22 +83,22 @@ vertices_at is =
     Ok vertices
 
 -- the complex that begins at the end of this line, whose fault is the target's
-abbrev pub target_of : List ℕ → facet.Reading → Reading Space
+abbrev pub target_of : List ℕ → facet.Reading → Reading ComplexView
 target_of bytes (Ok x) = Ok (x.0, items bytes x.1)
 target_of bytes (Err e) = Err (fault.Target e)
 
-unfoldable pub target_at : List ℕ → List Item → Reading Space
+unfoldable pub target_at : List ℕ → List Item → Reading ComplexView
 target_at bytes [] = Err (fault.Syntax 0)
 target_at bytes (line_end at ∷ is) = target_of bytes (complex_at bytes at)
 target_at bytes (word text at ∷ is) = Err (fault.Syntax at)
 
-unfoldable pub sphere_at : List Item → Result Claim CertFault
+unfoldable pub sphere_at : List Item → Result Statement CertFault
 sphere_at is =
     flips_at is >>= λ flips.
     nothing_left (line_start flips.1) >>= λ _.
     Ok (Sphere flips.0)
 
-unfoldable pub equal_at : List ℕ → List Item → Result Claim CertFault
+unfoldable pub equal_at : List ℕ → List Item → Result Statement CertFault
 equal_at bytes is =
     target_at bytes is >>= λ target.
     flips_at target.1 >>= λ flips.
@@ -106,17 +106,17 @@ equal_at bytes is =
     nothing_left (line_start pairs.1) >>= λ _.
     Ok (Equal target.0 flips.0 pairs.0)
 
-unfoldable pub manifold_at : List Item → Result Claim CertFault
+unfoldable pub manifold_at : List Item → Result Statement CertFault
 manifold_at is =
     vertices_at is >>= λ vertices.
     nothing_left (line_start vertices.1) >>= λ _.
     Ok (Manifold vertices.0)
 
-unfoldable pub body_at : List ℕ → Kind → List Item → Result Claim CertFault
+unfoldable pub body_at : List ℕ → Kind → List Item → Result Statement CertFault
 body_at bytes kind.Sphere is = sphere_at is
 body_at bytes kind.Equal is = equal_at bytes is
 body_at bytes kind.Manifold is = manifold_at is
 
--- The certificate that the input spells from a place to its end, or the first fault.
-unfoldable pub certificate_at : List ℕ → ℕ → Result Claim CertFault
+-- The certificate that the input spells from an offset to its end, or the first fault.
+unfoldable pub certificate_at : List ℕ → ℕ → Result Statement CertFault
 certificate_at bytes from = header_at (items bytes from) >>= λ k. body_at bytes k.0 k.1

@@ -1,5 +1,5 @@
 -- The text of certificates.
-pub mod Claims
+pub mod Statements
 pub mod Readings
 pub mod Lines
 pub mod Grammar

@@ -74,7 +74,7 @@ nothing_left is = Ok tt
 unfoldable pub flip_line : List Flip → List Item → Reading Flip
 flip_line before is = counted begins_with_digit (λ js. of_line (flip_at (UpTo 65000) js)) (line_start is)
 
--- the line of a pair that has no number of a pair before it in the same place
+-- the line of a pair that has no number of a pair before it in the same position
 unfoldable pub pair_at : List (ℕ × ℕ) → List Item → Reading (ℕ × ℕ)
 pair_at pairs is =
     label_at (takes pairs) is >>= λ first.

@@ -17,8 +17,8 @@ unfoldable pub ◌>>=◌ : {A B : Type 0} → Result A CertFault → (A → Resu
 (Err e) >>= f = Err e
 
 abbrev pub cert_fault : LineFault → CertFault
-cert_fault (line.Syntax place) = fault.Syntax place
-cert_fault (line.Label place) = fault.Label place
+cert_fault (line.Syntax offset) = fault.Syntax offset
+cert_fault (line.Label offset) = fault.Label offset
 
 -- what is read of a line
 unfoldable pub of_line : {X : Type 0} → Result X LineFault → Result X CertFault
@@ -39,12 +39,12 @@ abbrev pub Gives : {X Y : Type 0} → (X → Y) → Result X CertFault → Resul
 Gives view (Ok x) read = read ≡ Ok (view x)
 Gives view (Err e) read = Fails e read
 
--- The same of a part, with the place after it.
+-- The same of a part, with the offset after it.
 abbrev pub Reads : {X Y : Type 0} → List ℕ → (X → Y) → Result (X × ℕ) CertFault → Reading Y → Type 0
 Reads bytes view (Ok x) read = read ≡ Ok (view x.0, items bytes x.1)
 Reads bytes view (Err e) read = Fails e read
 
--- The same of a part of which only the place after it is answered.
+-- The same of a part of which only the offset after it is answered.
 abbrev pub Passes : List ℕ → Result ℕ CertFault → Result (List Item) CertFault → Type 0
-Passes bytes (Ok place) read = read ≡ Ok (items bytes place)
+Passes bytes (Ok offset) read = read ≡ Ok (items bytes offset)
 Passes bytes (Err e) read = Fails e read

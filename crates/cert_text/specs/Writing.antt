@@ -7,7 +7,7 @@ use Rattle.facet_text.specs.Writing as facet
 use Rattle.flip_rules.specs.declared.flip.Flip.{Flip}
 use Rattle.line_text.specs.declared.label.Labels.TheVariants.{UpTo}
 use Rattle.line_text.specs.Writing.{HasSides, flip_text}
-use Rattle.cert_text.specs.Claims.{Claim, OfVertex, Sphere, Equal, Manifold}
+use Rattle.cert_text.specs.Statements.{Statement, OfVertex, Sphere, Equal, Manifold}
 
 -- a word and a number, on a line
 abbrev pub number_line : List ℕ → ℕ → List ℕ
@@ -38,7 +38,7 @@ abbrev pub header_text : List ℕ → List ℕ
 header_text kind = codes "bistellar 1 " ++ (kind ++ 10 ∷ [])
 
 -- the text of a certificate
-unfoldable pub text_of : Claim → List ℕ
+unfoldable pub text_of : Statement → List ℕ
 text_of (Sphere flips) = header_text (codes "sphere") ++ flips_text flips
 text_of (Equal target flips pairs) =
     header_text (codes "equal") ++ (facet.text_of target.facets ++ (10 ∷ flips_text flips ++ map_text pairs))
@@ -64,7 +64,7 @@ pub record AreVertices (vs : List OfVertex) : Type 0 where
   pub labels : AllByRecursion (λ v. IsLabel v.0) vs
   pub flips : AllByRecursion (λ v. AreFlips v.1) vs
 
-abbrev pub KeepsLimits : Claim → Type 0
+abbrev pub KeepsLimits : Statement → Type 0
 KeepsLimits (Sphere flips) = AreFlips flips
 KeepsLimits (Equal target flips pairs) = facet.KeepsLimits target × AreFlips flips × ArePairs pairs
 KeepsLimits (Manifold vs) = AreVertices vs

@@ -8,14 +8,14 @@ use facet_text::TextFault;
 use line_text::LineFault;
 use std::alloc::{AllocError, AllocFailed};
 
-/// The first fault of a text from left to right. A place counts the bytes before it in the whole
+/// The first fault of a text from left to right. An offset counts the bytes before it in the whole
 /// input.
 #[derive(Clone, Copy, Debug, PartialEq, Eq)]
 pub enum CertFault {
     /// A word that isn't allowed there, or a line or an input that ends too early, at its end.
     Syntax(usize),
     /// A label that isn't from 1 to 65,000, that stood in this side of a flip before, or that
-    /// stood before as a number of the same place in a pair, by its first digit.
+    /// stood before as a number of the same position in a pair, by its first digit.
     Label(usize),
     /// Another line than was counted, or one more, by its first word, or the input's end.
     Count(usize),
@@ -30,8 +30,8 @@ impl From<LineFault> for CertFault {
 
     fn from(e: LineFault) -> CertFault {
         match e {
-            LineFault::Syntax(place) => CertFault::Syntax(place),
-            LineFault::Label(place) => CertFault::Label(place),
+            LineFault::Syntax(offset) => CertFault::Syntax(offset),
+            LineFault::Label(offset) => CertFault::Label(offset),
         }
     }
 }

@@ -28,7 +28,7 @@ pub(crate) fn next_line(bytes: &[u8], from: usize) -> Result<Word<'_>, CertFault
     ensures first { MatchResult result
         (λ w. line_start (items bytes.now from) ≡ view w ∷ items bytes.now w.end)
         (λ e. (line_start (items bytes.now from) ≡ Item.line_end (length bytes.now) ∷ []) × (e ≡ CertFault.Syntax (length bytes.now))) }
-    ensures place { IfOk result (λ w. (from < w.end) × (w.end ≤ length bytes.now)) }
+    ensures offset { IfOk result (λ w. (from < w.end) × (w.end ≤ length bytes.now)) }
 {
     match first_word(bytes, from) {
         Some(word) => Ok(word),
@@ -42,7 +42,7 @@ pub(crate) fn end_of_line(bytes: &[u8], from: usize) -> Result<usize, CertFault>
     requires { from ≤ length bytes.now }
     ensures read { Passes bytes.now result (ended (items bytes.now from)) }
     ensures end { IfOk result (λ end. (rest : List Item) × (items bytes.now end ≡ Item.line_end end ∷ rest)) }
-    ensures place { IfOk result (λ end. (from ≤ end) × (end ≤ length bytes.now)) }
+    ensures offset { IfOk result (λ end. (from ≤ end) × (end ≤ length bytes.now)) }
 {
     match end_here(bytes, from) {
         Ok(end) => Ok(end),
@@ -57,7 +57,7 @@ pub(crate) fn read_number(bytes: &[u8], from: usize) -> Result<Number, CertFault
     ensures read { MatchResult result
         (λ n. of_line (number_at (items bytes.now from)) ≡ Ok (n.value, n.start, items bytes.now n.end))
         (λ e. Fails e (of_line (number_at (items bytes.now from)))) }
-    ensures place { IfOk result (λ n. (from < n.end) × (n.end ≤ length bytes.now)) }
+    ensures offset { IfOk result (λ n. (from < n.end) × (n.end ≤ length bytes.now)) }
 {
     match number_here(bytes, from) {
         Ok(number) => Ok(number),
@@ -77,7 +77,7 @@ pub(crate) fn is_word(text: &[u8], name: &[u8]) -> bool
 fn read_count(bytes: &[u8], from: usize) -> Result<(u32, usize), CertFault>
     requires { from ≤ length bytes.now }
     ensures read { Reads bytes.now (λ n. n) result (count_at (items bytes.now from)) }
-    ensures place { IfOk result (λ x. (from < x.1) × (x.1 ≤ length bytes.now)) }
+    ensures offset { IfOk result (λ x. (from < x.1) × (x.1 ≤ length bytes.now)) }
 {
     let number = read_number(bytes, from)?;
     match number.value {
@@ -91,14 +91,14 @@ fn read_count(bytes: &[u8], from: usize) -> Result<(u32, usize), CertFault>
 pub(crate) fn read_stated(bytes: &[u8], from: usize, name: &[u8]) -> Result<(u32, usize), CertFault>
     requires { from ≤ length bytes.now }
     ensures read { Reads bytes.now (λ n. n) result (stated name.now (items bytes.now from)) }
-    ensures place { IfOk result (λ x. (from < x.1) × (x.1 ≤ length bytes.now)) }
+    ensures offset { IfOk result (λ x. (from < x.1) × (x.1 ≤ length bytes.now)) }
 {
     let word = next_line(bytes, from)?;
     if !is_word(word.text, name) {
         return Err(CertFault::Syntax(word.start));
     }
-    let (count, place) = read_count(bytes, word.end)?;
-    let end = end_of_line(bytes, place)?;
+    let (count, offset) = read_count(bytes, word.end)?;
+    let end = end_of_line(bytes, offset)?;
     Ok((count, end))
 }
 
@@ -123,7 +123,7 @@ fn label_of(value: Option<u32>) -> Option<u16>
 fn read_label(bytes: &[u8], from: usize) -> Result<(u16, usize), CertFault>
     requires { from ≤ length bytes.now }
     ensures read { Reads bytes.now (λ n. n) result (label_at (λ n. false) (items bytes.now from)) }
-    ensures place { IfOk result (λ x. (from < x.1) × (x.1 ≤ length bytes.now)) }
+    ensures offset { IfOk result (λ x. (from < x.1) × (x.1 ≤ length bytes.now)) }
 {
     let number = read_number(bytes, from)?;
     match label_of(number.value) {
@@ -145,7 +145,7 @@ fn read_new_label(
     ensures seen { IfOk result (λ x. IsSeen (contains nat_cmp seen.old) x.0 (contains nat_cmp seen.new)) }
     ensures new { IfOk result (λ x. contains nat_cmp seen.old x.0 ≡ false) }
     ensures positive { IfOk result (λ x. 0 < x.0) }
-    ensures place { IfOk result (λ x. (from < x.1) × (x.1 ≤ length bytes.now)) }
+    ensures offset { IfOk result (λ x. (from < x.1) × (x.1 ≤ length bytes.now)) }
 {
     let number = read_number(bytes, from)?;
     let Some(label) = label_of(number.value) else {
@@ -162,7 +162,7 @@ fn read_new_label(
 pub(crate) fn read_flip_line(bytes: &[u8], from: usize) -> Result<(Flip, usize), CertFault>
     requires { from ≤ length bytes.now }
     ensures read { (before : List Flip) → Reads bytes.now (λ f. f) result (flip_line before (items bytes.now from)) }
-    ensures place { IfOk result (λ x. (from < x.1) × (x.1 ≤ length bytes.now)) }
+    ensures offset { IfOk result (λ x. (from < x.1) × (x.1 ≤ length bytes.now)) }
 {
     match first_word(bytes, from) {
         Some(word) => {
@@ -178,7 +178,7 @@ pub(crate) fn read_flip_line(bytes: &[u8], from: usize) -> Result<(Flip, usize),
     }
 }
 
-/// The line of a pair whose numbers aren't among those that were seen in the same place, and are
+/// The line of a pair whose numbers aren't among those that were seen in the same position, and are
 /// then. The answer is at the line's end.
 #[tactic(auto, unfolding(crate::specs::Lines::pair_line, crate::specs::Lines::counted))]
 pub(crate) fn read_pair_line(
@@ -195,7 +195,7 @@ pub(crate) fn read_pair_line(
     ensures seconds { IfOk result (λ x. IsSeen (contains nat_cmp seconds.old) x.0.1 (contains nat_cmp seconds.new)) }
     ensures new { IfOk result (λ x. (contains nat_cmp firsts.old x.0.0 ≡ false) × (contains nat_cmp seconds.old x.0.1 ≡ false)) }
     ensures positive { IfOk result (λ x. (0 < x.0.0) × (0 < x.0.1)) }
-    ensures place { IfOk result (λ x. (from < x.1) × (x.1 ≤ length bytes.now)) }
+    ensures offset { IfOk result (λ x. (from < x.1) × (x.1 ≤ length bytes.now)) }
 {
     match first_word(bytes, from) {
         Some(word) => {
@@ -224,11 +224,11 @@ fn read_pair(
     ensures seconds { IfOk result (λ x. IsSeen (contains nat_cmp seconds.old) x.0.1 (contains nat_cmp seconds.new)) }
     ensures new { IfOk result (λ x. (contains nat_cmp firsts.old x.0.0 ≡ false) × (contains nat_cmp seconds.old x.0.1 ≡ false)) }
     ensures positive { IfOk result (λ x. (0 < x.0.0) × (0 < x.0.1)) }
-    ensures place { IfOk result (λ x. (from < x.1) × (x.1 ≤ length bytes.now)) }
+    ensures offset { IfOk result (λ x. (from < x.1) × (x.1 ≤ length bytes.now)) }
 {
-    let (first, place) = read_new_label(bytes, from, firsts)?;
-    let (second, place) = read_new_label(bytes, place, seconds)?;
-    let end = end_of_line(bytes, place)?;
+    let (first, offset) = read_new_label(bytes, from, firsts)?;
+    let (second, offset) = read_new_label(bytes, offset, seconds)?;
+    let end = end_of_line(bytes, offset)?;
     Ok(((first, second), end))
 }
 
@@ -243,15 +243,15 @@ fn is_vertex(text: &[u8]) -> bool
 pub(crate) fn read_vertex_line(bytes: &[u8], from: usize) -> Result<(u16, usize), CertFault>
     requires { from ≤ length bytes.now }
     ensures read { Reads bytes.now (λ n. n) result (counted is_vertex vertex_at (line_start (items bytes.now from))) }
-    ensures place { IfOk result (λ x. (from < x.1) × (x.1 ≤ length bytes.now)) }
+    ensures offset { IfOk result (λ x. (from < x.1) × (x.1 ≤ length bytes.now)) }
 {
     match first_word(bytes, from) {
         Some(word) => {
             if !is_vertex(word.text) {
                 return Err(CertFault::Count(word.start));
             }
-            let (vertex, place) = read_label(bytes, word.end)?;
-            let end = end_of_line(bytes, place)?;
+            let (vertex, offset) = read_label(bytes, word.end)?;
+            let end = end_of_line(bytes, offset)?;
             Ok((vertex, end))
         }
         None => Err(CertFault::Count(bytes.len())),

@@ -4,8 +4,8 @@ ghost use Rattle.std.specs.Prelude.{◌≡◌, ◌≤◌, ◌<◌, [], List, map
 ghost use Rattle.complex_core.specs.Maps.{ArePositive, Differ, pair_cmp};
 ghost use Rattle.complex_core.specs.Rising.{rising};
 ghost use Rattle.facet_text.specs.Lines.{items};
-ghost use Rattle.cert_text.specs.Claims as claims;
-ghost use Rattle.cert_text.specs.Claims.{of_vertex};
+ghost use Rattle.cert_text.specs.Statements as statements;
+ghost use Rattle.cert_text.specs.Statements.{of_vertex};
 ghost use Rattle.cert_text.specs.Readings.{Reads, so_many};
 ghost use Rattle.cert_text.specs.Lines.{flip_line, pair_line};
 ghost use Rattle.cert_text.specs.Grammar.{flips_at, map_at, vertex_part, vertices_at};
@@ -33,16 +33,16 @@ fn read_flip_lines(
 ) -> Result<(Vec<Flip>, usize), CertFault>
     requires { from ≤ length bytes.now }
     ensures read { Reads bytes.now (λ v. v.items) result (so_many flip_line count [] (items bytes.now from)) }
-    ensures place { IfOk result (λ x. (from ≤ x.1) × (x.1 ≤ length bytes.now)) }
+    ensures offset { IfOk result (λ x. (from ≤ x.1) × (x.1 ≤ length bytes.now)) }
 {
     let mut flips = Vec::new(alloc);
-    let mut place = from;
+    let mut offset = from;
     'lines: for _ in 0..count {
-        let (flip, after) = read_flip_line(bytes, place)?;
+        let (flip, after) = read_flip_line(bytes, offset)?;
         flips.push(flip)?;
-        place = after;
+        offset = after;
     }
-    Ok((flips, place))
+    Ok((flips, offset))
 }
 
 /// The number of flips, and the flips.
@@ -54,12 +54,12 @@ pub(crate) fn read_flips(
 ) -> Result<(Vec<Flip>, usize), CertFault>
     requires { from ≤ length bytes.now }
     ensures read { Reads bytes.now (λ v. v.items) result (flips_at (items bytes.now from)) }
-    ensures place { IfOk result (λ x. (from < x.1) × (x.1 ≤ length bytes.now)) }
+    ensures offset { IfOk result (λ x. (from < x.1) × (x.1 ≤ length bytes.now)) }
 {
-    let (count, place) = read_stated(bytes, from, b"flips")?;
-    let (flips, place) = read_flip_lines(alloc, bytes, place, count)?;
-    no_more_numbers(bytes, place)?;
-    Ok((flips, place))
+    let (count, offset) = read_stated(bytes, from, b"flips")?;
+    let (flips, offset) = read_flip_lines(alloc, bytes, offset, count)?;
+    no_more_numbers(bytes, offset)?;
+    Ok((flips, offset))
 }
 
 /// So many lines, one pair each.
@@ -74,18 +74,18 @@ fn read_pair_lines(
     ensures read { Reads bytes.now (λ v. v.items) result (so_many pair_line count [] (items bytes.now from)) }
     ensures positive { IfOk result (λ x. ArePositive x.0.items) }
     ensures differ { IfOk result (λ x. Differ x.0.items) }
-    ensures place { IfOk result (λ x. (from ≤ x.1) × (x.1 ≤ length bytes.now)) }
+    ensures offset { IfOk result (λ x. (from ≤ x.1) × (x.1 ≤ length bytes.now)) }
 {
     let mut pairs = Vec::new(alloc);
     let mut firsts = BTreeSet::new(alloc);
     let mut seconds = BTreeSet::new(alloc);
-    let mut place = from;
+    let mut offset = from;
     'lines: for _ in 0..count {
-        let (pair, after) = read_pair_line(bytes, place, &mut firsts, &mut seconds)?;
+        let (pair, after) = read_pair_line(bytes, offset, &mut firsts, &mut seconds)?;
         pairs.push(pair)?;
-        place = after;
+        offset = after;
     }
-    Ok((pairs, place))
+    Ok((pairs, offset))
 }
 
 /// The map of pairs that share no numbers.
@@ -110,25 +110,25 @@ pub(crate) fn read_map(
 ) -> Result<(VertexMap, usize), CertFault>
     requires { from ≤ length bytes.now }
     ensures read { Reads bytes.now (λ m. m) result (map_at (items bytes.now from)) }
-    ensures place { IfOk result (λ x. (from < x.1) × (x.1 ≤ length bytes.now)) }
+    ensures offset { IfOk result (λ x. (from < x.1) × (x.1 ≤ length bytes.now)) }
 {
-    let (count, place) = read_stated(bytes, from, b"map")?;
-    let (pairs, place) = read_pair_lines(alloc, bytes, place, count)?;
-    no_more_numbers(bytes, place)?;
+    let (count, offset) = read_stated(bytes, from, b"map")?;
+    let (pairs, offset) = read_pair_lines(alloc, bytes, offset, count)?;
+    no_more_numbers(bytes, offset)?;
     let map = map_of(alloc, &pairs)?;
-    Ok((map, place))
+    Ok((map, offset))
 }
 
 /// A vertex, and its flips.
 #[tactic(auto, using(crate::proofs::Parts::fails_first, crate::proofs::Parts::fails_after, crate::proofs::Parts::first_read), unfolding(crate::specs::Grammar::vertex_part))]
 fn read_vertex(alloc: Global, bytes: &[u8], from: usize) -> Result<(OfVertex, usize), CertFault>
     requires { from ≤ length bytes.now }
-    ensures read { (before : List claims.OfVertex) → Reads bytes.now of_vertex result (vertex_part before (items bytes.now from)) }
-    ensures place { IfOk result (λ x. (from < x.1) × (x.1 ≤ length bytes.now)) }
+    ensures read { (before : List statements.OfVertex) → Reads bytes.now of_vertex result (vertex_part before (items bytes.now from)) }
+    ensures offset { IfOk result (λ x. (from < x.1) × (x.1 ≤ length bytes.now)) }
 {
-    let (vertex, place) = read_vertex_line(bytes, from)?;
-    let (flips, place) = read_flips(alloc, bytes, place)?;
-    Ok(((vertex, flips), place))
+    let (vertex, offset) = read_vertex_line(bytes, from)?;
+    let (flips, offset) = read_flips(alloc, bytes, offset)?;
+    Ok(((vertex, flips), offset))
 }
 
 /// So many vertices, each with its flips.
@@ -141,16 +141,16 @@ fn read_vertex_parts(
 ) -> Result<(Vec<OfVertex>, usize), CertFault>
     requires { from ≤ length bytes.now }
     ensures read { Reads bytes.now (λ v. map of_vertex v.items) result (so_many vertex_part count [] (items bytes.now from)) }
-    ensures place { IfOk result (λ x. (from ≤ x.1) × (x.1 ≤ length bytes.now)) }
+    ensures offset { IfOk result (λ x. (from ≤ x.1) × (x.1 ≤ length bytes.now)) }
 {
     let mut vertices = Vec::new(alloc);
-    let mut place = from;
+    let mut offset = from;
     'vertices: for _ in 0..count {
-        let (vertex, after) = read_vertex(alloc, bytes, place)?;
+        let (vertex, after) = read_vertex(alloc, bytes, offset)?;
         vertices.push(vertex)?;
-        place = after;
+        offset = after;
     }
-    Ok((vertices, place))
+    Ok((vertices, offset))
 }
 
 /// The number of vertices, and the vertices.
@@ -162,10 +162,10 @@ pub(crate) fn read_vertices(
 ) -> Result<(Vec<OfVertex>, usize), CertFault>
     requires { from ≤ length bytes.now }
     ensures read { Reads bytes.now (λ v. map of_vertex v.items) result (vertices_at (items bytes.now from)) }
-    ensures place { IfOk result (λ x. (from < x.1) × (x.1 ≤ length bytes.now)) }
+    ensures offset { IfOk result (λ x. (from < x.1) × (x.1 ≤ length bytes.now)) }
 {
-    let (count, place) = read_stated(bytes, from, b"vertices")?;
-    let (vertices, place) = read_vertex_parts(alloc, bytes, place, count)?;
-    no_more_vertices(bytes, place)?;
-    Ok((vertices, place))
+    let (count, offset) = read_stated(bytes, from, b"vertices")?;
+    let (vertices, offset) = read_vertex_parts(alloc, bytes, offset, count)?;
+    no_more_vertices(bytes, offset)?;
+    Ok((vertices, offset))
 }

@@ -2,7 +2,7 @@
 
 ghost use Rattle.std.specs.Prelude.{◌≡◌, ◌∷◌, ◌≤◌, ◌<◌, List, IfOk, length};
 ghost use Rattle.facet_text.specs.Lines.{Item, items};
-ghost use Rattle.cert_text.specs.Claims.{claim};
+ghost use Rattle.cert_text.specs.Statements.{statement};
 ghost use Rattle.cert_text.specs.Readings.{Gives, Passes, Reads};
 ghost use Rattle.cert_text.specs.Grammar.{body_at, certificate_at, equal_at, header_at, kind_at, kind_of, manifold_at, sphere_at, target_at, version_at};
 
@@ -23,17 +23,17 @@ enum Kind {
     Manifold,
 }
 
-/// Reads the certificate that stands from a place to the end of the input.
+/// Reads the certificate that stands from an offset to the end of the input.
 #[tactic(auto, using(crate::proofs::Parts::fails_first, crate::proofs::Parts::fails_after, crate::proofs::Parts::first_read), unfolding(crate::specs::Grammar::certificate_at, crate::specs::Grammar::body_at))]
 pub fn read_certificate(alloc: Global, bytes: &[u8], from: usize) -> Result<Certificate, CertFault>
     requires { from ≤ length bytes.now }
-    ensures read { Gives claim result (certificate_at bytes.now from) }
+    ensures read { Gives statement result (certificate_at bytes.now from) }
 {
-    let (kind, place) = read_header(bytes, from)?;
+    let (kind, offset) = read_header(bytes, from)?;
     match kind {
-        Kind::Sphere => read_sphere(alloc, bytes, place),
-        Kind::Equal => read_equal(alloc, bytes, place),
-        Kind::Manifold => read_manifold(alloc, bytes, place),
+        Kind::Sphere => read_sphere(alloc, bytes, offset),
+        Kind::Equal => read_equal(alloc, bytes, offset),
+        Kind::Manifold => read_manifold(alloc, bytes, offset),
     }
 }
 
@@ -43,15 +43,15 @@ fn read_header(bytes: &[u8], from: usize) -> Result<(Kind, usize), CertFault>
     requires { from ≤ length bytes.now }
     ensures read { Reads bytes.now (λ k. k) result (header_at (items bytes.now from)) }
     ensures end { IfOk result (λ x. (rest : List Item) × (items bytes.now x.1 ≡ Item.line_end x.1 ∷ rest)) }
-    ensures place { IfOk result (λ x. (from < x.1) × (x.1 ≤ length bytes.now)) }
+    ensures offset { IfOk result (λ x. (from < x.1) × (x.1 ≤ length bytes.now)) }
 {
     let word = next_line(bytes, from)?;
     if !is_word(word.text, b"bistellar") {
         return Err(CertFault::Syntax(word.start));
     }
-    let place = read_version(bytes, word.end)?;
-    let (kind, place) = read_kind(bytes, place)?;
-    let end = end_of_line(bytes, place)?;
+    let offset = read_version(bytes, word.end)?;
+    let (kind, offset) = read_kind(bytes, offset)?;
+    let end = end_of_line(bytes, offset)?;
     Ok((kind, end))
 }
 
@@ -60,7 +60,7 @@ fn read_header(bytes: &[u8], from: usize) -> Result<(Kind, usize), CertFault>
 fn read_version(bytes: &[u8], from: usize) -> Result<usize, CertFault>
     requires { from ≤ length bytes.now }
     ensures read { Passes bytes.now result (version_at (items bytes.now from)) }
-    ensures place { IfOk result (λ place. (from < place) × (place ≤ length bytes.now)) }
+    ensures offset { IfOk result (λ offset. (from < offset) × (offset ≤ length bytes.now)) }
 {
     let number = read_number(bytes, from)?;
     match number.value {
@@ -89,7 +89,7 @@ fn kind_of(text: &[u8]) -> Option<Kind>
 fn read_kind(bytes: &[u8], from: usize) -> Result<(Kind, usize), CertFault>
     requires { from ≤ length bytes.now }
     ensures read { Reads bytes.now (λ k. k) result (kind_at (items bytes.now from)) }
-    ensures place { IfOk result (λ x. (from < x.1) × (x.1 ≤ length bytes.now)) }
+    ensures offset { IfOk result (λ x. (from < x.1) × (x.1 ≤ length bytes.now)) }
 {
     let word = match word_here(bytes, from) {
         Ok(word) => word,
@@ -105,10 +105,10 @@ fn read_kind(bytes: &[u8], from: usize) -> Result<(Kind, usize), CertFault>
 #[tactic(auto, using(crate::proofs::Parts::fails_first, crate::proofs::Parts::fails_after, crate::proofs::Parts::first_read), unfolding(crate::specs::Grammar::sphere_at))]
 fn read_sphere(alloc: Global, bytes: &[u8], from: usize) -> Result<Certificate, CertFault>
     requires { from ≤ length bytes.now }
-    ensures { Gives claim result (sphere_at (items bytes.now from)) }
+    ensures { Gives statement result (sphere_at (items bytes.now from)) }
 {
-    let (flips, place) = read_flips(alloc, bytes, from)?;
-    nothing_left(bytes, place)?;
+    let (flips, offset) = read_flips(alloc, bytes, from)?;
+    nothing_left(bytes, offset)?;
     Ok(Certificate::Sphere(flips))
 }
 
@@ -118,10 +118,10 @@ fn read_target(alloc: Global, bytes: &[u8], from: usize) -> Result<(Complex, usi
     requires from { from ≤ length bytes.now }
     requires end { (rest : List Item) × (items bytes.now from ≡ Item.line_end from ∷ rest) }
     ensures read { Reads bytes.now (λ k. k) result (target_at bytes.now (items bytes.now from)) }
-    ensures place { IfOk result (λ x. (from < x.1) × (x.1 ≤ length bytes.now)) }
+    ensures offset { IfOk result (λ x. (from < x.1) × (x.1 ≤ length bytes.now)) }
 {
     match read_complex(alloc, bytes, from) {
-        Ok((target, place)) => Ok((target, place)),
+        Ok((target, offset)) => Ok((target, offset)),
         Err(TextFault::Memory) => Err(CertFault::Memory),
         Err(fault) => Err(CertFault::Target(fault)),
     }
@@ -132,12 +132,12 @@ fn read_target(alloc: Global, bytes: &[u8], from: usize) -> Result<(Complex, usi
 fn read_equal(alloc: Global, bytes: &[u8], from: usize) -> Result<Certificate, CertFault>
     requires from { from ≤ length bytes.now }
     requires end { (rest : List Item) × (items bytes.now from ≡ Item.line_end from ∷ rest) }
-    ensures { Gives claim result (equal_at bytes.now (items bytes.now from)) }
+    ensures { Gives statement result (equal_at bytes.now (items bytes.now from)) }
 {
-    let (target, place) = read_target(alloc, bytes, from)?;
-    let (flips, place) = read_flips(alloc, bytes, place)?;
-    let (map, place) = read_map(alloc, bytes, place)?;
-    nothing_left(bytes, place)?;
+    let (target, offset) = read_target(alloc, bytes, from)?;
+    let (flips, offset) = read_flips(alloc, bytes, offset)?;
+    let (map, offset) = read_map(alloc, bytes, offset)?;
+    nothing_left(bytes, offset)?;
     Ok(Certificate::Equal { target, flips, map })
 }
 
@@ -145,9 +145,9 @@ fn read_equal(alloc: Global, bytes: &[u8], from: usize) -> Result<Certificate, C
 #[tactic(auto, using(crate::proofs::Parts::fails_first, crate::proofs::Parts::fails_after, crate::proofs::Parts::first_read), unfolding(crate::specs::Grammar::manifold_at))]
 fn read_manifold(alloc: Global, bytes: &[u8], from: usize) -> Result<Certificate, CertFault>
     requires { from ≤ length bytes.now }
-    ensures { Gives claim result (manifold_at (items bytes.now from)) }
+    ensures { Gives statement result (manifold_at (items bytes.now from)) }
 {
-    let (vertices, place) = read_vertices(alloc, bytes, from)?;
-    nothing_left(bytes, place)?;
+    let (vertices, offset) = read_vertices(alloc, bytes, from)?;
+    nothing_left(bytes, offset)?;
     Ok(Certificate::Manifold(vertices))
 }

@@ -4,8 +4,8 @@ ghost use Rattle.std.specs.Prelude.{◌≡◌, ◌∷◌, ◌++◌, ◌+◌, [],
 ghost use Rattle.std.specs.List.{flat_map};
 ghost use Rattle.facet_text.specs.Writing as facet;
 ghost use Rattle.facet_text.specs.Writing.{OnlyAdds};
-ghost use Rattle.cert_text.specs.Claims as claims;
-ghost use Rattle.cert_text.specs.Claims.{claim, of_vertex};
+ghost use Rattle.cert_text.specs.Statements as statements;
+ghost use Rattle.cert_text.specs.Statements.{statement, of_vertex};
 ghost use Rattle.cert_text.specs.Grammar.{certificate_at};
 ghost use Rattle.cert_text.specs.Writing.{KeepsLimits, flip_line_text, flips_text, header_text, map_text, number_line, pair_text, text_of, vertex_text, vertices_text};
 
@@ -19,7 +19,7 @@ use std::alloc::AllocError;
 /// Appends the one text of a certificate: single spaces, rising labels, the pairs of a map rising,
 /// and a line feed after each line. After want of memory `out` is as it was.
 pub fn write_certificate(certificate: &Certificate, out: &mut Vec<u8>) -> Result<(), AllocError>
-    ensures ok { OnOk result (out.new.items ≡ out.old.items ++ text_of (claim certificate.now)) }
+    ensures ok { OnOk result (out.new.items ≡ out.old.items ++ text_of (statement certificate.now)) }
     ensures err { OnErr result (out.new.items ≡ out.old.items) }
 {
     let before = out.len();
@@ -33,13 +33,13 @@ pub fn write_certificate(certificate: &Certificate, out: &mut Vec<u8>) -> Result
 /// A certificate within the limits is read again from its whole text, whatever bytes stand before
 /// it.
 pub fn written_certificate_is_read()
-    ensures { (before : List ℕ) (c : claims.Claim) → KeepsLimits c →
+    ensures { (before : List ℕ) (c : statements.Statement) → KeepsLimits c →
         certificate_at (before ++ text_of c) (length before) ≡ Ok c }
 {}
 
 #[tactic(auto, unfolding(crate::specs::Writing::text_of))]
 fn put_certificate(certificate: &Certificate, out: &mut Vec<u8>) -> Result<(), AllocError>
-    ensures ok { OnOk result (out.new.items ≡ out.old.items ++ text_of (claim certificate.now)) }
+    ensures ok { OnOk result (out.new.items ≡ out.old.items ++ text_of (statement certificate.now)) }
     ensures err { OnErr result (OnlyAdds out.old.items out.new.items) }
 {
     match certificate {

@@ -50,7 +50,7 @@ module _ (clones : ℕ → ℕ → Type 0) (same : (x y : ℕ) → clones x y �
   read_both [] (s ∷ ss) ess ts r q = elim r [ ]
   read_both (ds ∷ dss) [] ess ts r q = elim r [ ]
 
-  -- the first place runs over c numbers from b on
+  -- the first position runs over c numbers from b on
   along : (m : ℕ) (w : ℕ → List (List ℕ)) → ((d : ℕ) → ReadsAll clones xs (w d) (subsets_of m (drop (d + 1) xs))) → (c b : ℕ) → c ≡ length xs - m - b → ReadsAll clones xs (flat_map (λ d. map (λ ds. d ∷ ds) (w d)) (numbers b c)) (subsets_of (suc m) (drop b xs))
   along m w h zero b e = let P : List (List ℕ) → Type 0 = λ ss. ReadsAll clones xs [] ss in subst P (sym (no_subsets (suc m) (drop b xs) (omega (arith, e, length-drop b xs)))) tt
   along m w h (suc c) b e =

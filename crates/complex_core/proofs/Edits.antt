@@ -10,7 +10,7 @@ use Rattle.complex_core.specs.Packed.{weight, pack, unpack, IsPacked}
 use Rattle.complex_core.specs.Packing.{weight_next}
 use Rattle.complex_core.proofs.Packs.{AreLabels, DoFit, Packs, packs, pack_none, pack_below, number_is, labels_fit, are_labels, face_labels}
 
--- one place more behind the last label
+-- one position more behind the last label
 pack_wider : (n : ℕ) (xs : List ℕ) → length xs ≤ n → pack (suc n) xs ≡ pack n xs * 65536
 unfolding pack
 pack_wider n [] few = omega (arith, pack_none n)
@@ -38,7 +38,7 @@ labels_back : (xs ys : List ℕ) → AreLabels (xs ++ ys) → AreLabels ys
 labels_back [] ys h = h
 labels_back (x ∷ xs) ys h = labels_back xs ys h.2
 
--- the labels up to a place, and the numbers that they make
+-- the labels up to a position, and the numbers that they make
 record Parted (bits k : ℕ) (xs : List ℕ) (i : ℕ) : Type 0 where
   long : length (take i xs) ≡ i
   whole : bits ≡ pack 8 (take i xs) + pack k (drop i xs)
@@ -116,8 +116,8 @@ insert_packed bits front x shift i xs h e f l face fit s =
     let few : length xs + 1 ≤ 8 = omega (arith, face.few, length-insert xs i x l) in
     let p : Parted bits (suc j) xs i = parted bits (suc j) xs i h e l (omega (arith, s)) in
     let ys = drop i xs in
-    let place : shift ≡ 16 * j = omega (arith, s) in
-    let next : x * 2 ^ shift % 2 ^ 128 ≡ x * weight j = shl_whole x 16 shift 128 fit (omega (arith, s)) ∙ ap (λ m. x * 2 ^ m) place in
+    let position : shift ≡ 16 * j = omega (arith, s) in
+    let next : x * 2 ^ shift % 2 ^ 128 ≡ x * weight j = shl_whole x 16 shift 128 fit (omega (arith, s)) ∙ ap (λ m. x * 2 ^ m) position in
     let wider : pack (suc j) ys ≡ pack j ys * 65536 = pack_wider j ys (omega (arith, few, length-drop i xs)) in
     let back : (bits - front) / 65536 ≡ pack j ys = let b : bits - front ≡ pack j ys * 65536 = omega (arith, p.whole, f, wider) in ap (λ n. n / 65536) b ∙ omega arith in
     let room : length (take i xs) + suc j ≡ 8 = omega (arith, p.long, s) in

@@ -10,7 +10,7 @@ use Rattle.std.proofs.lemmas.List.Folds.{list_any-append}
 use Rattle.std.proofs.lemmas.List.Kept.{IsStrictlySortedBy-filter}
 use Rattle.complex_core.specs.Labels.{face_cmp}
 use Rattle.complex_core.specs.Rising.{put, rising}
-use Rattle.complex_core.specs.Spaces.{is_facet, staying}
+use Rattle.complex_core.specs.Complexes.{is_facet, staying}
 use Rattle.complex_core.proofs.Sets.{sorted_put}
 use Rattle.complex_core.proofs.Searching.{Stands, Missing, searched_for, rising_push, rising_own}
 use Rattle.complex_core.proofs.Sorting.{exact_faces}
@@ -38,7 +38,7 @@ nothing_out xs x at m = sym (staying_one xs x ∙ m.same)
 -- whether a face is listed, by a search
 pub facet_searched : (shown xs : List (List ℕ)) (x : List ℕ) (r : Result ℕ ℕ) → shown ≡ xs → IsStrictlySortedBy face_cmp xs → IsSearchInRange r (length shown) → IsBinarySearchResult (λ y. face_cmp y x) shown r → is_ok r ≡ is_facet xs x
 facet_searched shown xs x (Ok at) e s within found = let t : Stands face_cmp xs x at = search_face shown xs x (Ok at) e s within found in sym (sym (listed-among xs x) ∙ t.there)
-facet_searched shown xs x (Err at) e s within place = let t : Missing face_cmp xs x at = search_face shown xs x (Err at) e s within place in sym (sym (listed-among xs x) ∙ t.absent)
+facet_searched shown xs x (Err at) e s within position = let t : Missing face_cmp xs x at = search_face shown xs x (Err at) e s within position in sym (sym (listed-among xs x) ∙ t.absent)
 
 -- two tests in a row
 twice_filtered : (p q : List ℕ → Bool) (xs : List (List ℕ)) → filter p (filter q xs) ≡ filter (λ x. q x && p x) xs

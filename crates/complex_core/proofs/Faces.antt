@@ -101,7 +101,7 @@ with_new xs x t = length-put_new nat_cmp x xs (among-has x xs ∙ t)
 pub face_next : (all xs ys : List ℕ) (x : ℕ) → IsFace all → all ≡ xs ++ x ∷ ys → IsFace (xs ++ x ∷ [])
 face_next all xs ys x h e = face_front (xs ++ x ∷ []) ys (let P : List ℕ → Type 0 = λ zs. IsFace zs in subst P (e ∙ sym (append_assoc xs (x ∷ []) ys)) h)
 
--- the element at a place, and what stands around it
+-- the element at a position, and what stands around it
 pub around : (xs : List ℕ) (i d : ℕ) → i < length xs → xs ≡ take i xs ++ get_or xs i d ∷ drop (i + 1) xs
 around [] i d h = absurd (omega (arith, h))
 around (x ∷ xs) zero d h = refl
@@ -110,13 +110,13 @@ around (x ∷ xs) (suc i) d h = let e : suc i + 1 ≡ suc (i + 1) = omega arith 
 pub face_same : (xs ys : List ℕ) → xs ≡ ys → IsFace xs → IsFace ys
 face_same xs ys e h = let P : List ℕ → Type 0 = λ zs. IsFace zs in subst P e h
 
--- a label that is found at a place
+-- a label that is found at a position
 pub record Found (xs : List ℕ) (x at : ℕ) : Type 0 where
   pub inside : at < length xs
   pub same : with xs x ≡ xs
   pub removed : remove xs at ≡ without xs x
 
--- a label that goes to a place
+-- a label that goes to a position
 pub record Placed (xs : List ℕ) (x at : ℕ) : Type 0 where
   pub few : at ≤ length xs
   pub more : length (with xs x) ≡ length xs + 1

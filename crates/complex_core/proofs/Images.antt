@@ -10,7 +10,7 @@ use Rattle.std.proofs.lemmas.List.Folds.{list_all_at}
 use Rattle.std.proofs.lemmas.List.{take_all, length-take, length-map}
 use Rattle.complex_core.specs.Labels.{IsFace, has, with, union}
 use Rattle.complex_core.specs.Rising.{rising}
-use Rattle.complex_core.specs.Spaces.{Space, IsComplex, IsFacet}
+use Rattle.complex_core.specs.Complexes.{ComplexView, IsComplex, IsFacet}
 use Rattle.complex_core.specs.Maps.{IsMap, Differ, ArePositive, takes, reaches, at, face_image, face_images, takes_all}
 use Rattle.complex_core.proofs.Sets.{among, among-rising, any-rising, above_cons, above_head, above_tail, each_rising, sorted_rising, sorted_none, length-put_new}
 use Rattle.complex_core.proofs.Faces.{among-has, equal_cmp, cmp_less}
@@ -120,7 +120,7 @@ image_fits ps shown f made i y e face l so_far =
 
 -- ---- renaming a complex
 
-pub images_pure : (k : Space) (d : ℕ) (ps : List (ℕ × ℕ)) (shown items : List (List ℕ)) → shown ≡ k.facets → d ≡ k.dim → IsComplex k → IsMap ps → (takes_all ps shown ≡ true) × (items ≡ face_images ps shown) → AllByRecursion (IsFacet d) items
+pub images_pure : (k : ComplexView) (d : ℕ) (ps : List (ℕ × ℕ)) (shown items : List (List ℕ)) → shown ≡ k.facets → d ≡ k.dim → IsComplex k → IsMap ps → (takes_all ps shown ≡ true) × (items ≡ face_images ps shown) → AllByRecursion (IsFacet d) items
 images_pure k d ps shown items e f complex m made =
     let P : ℕ → List (List ℕ) → Type 0 = λ n gs. AllByRecursion (IsFacet n) gs in
     let facets : P d shown = subst (λ (n : ℕ). P n shown) (sym f) (subst (P k.dim) (sym e) complex.pure) in

@@ -11,7 +11,7 @@ use Rattle.std.proofs.lemmas.Bool.Decides.{nat_tests}
 use Rattle.std.proofs.lemmas.Cmp.{nat_cmp_total}
 use Rattle.complex_core.specs.Rising.{put, rising}
 use Rattle.complex_core.specs.Labels.{has, holds, with, without, union, face_cmp, IsFace}
-use Rattle.complex_core.specs.Spaces.{IsFacet}
+use Rattle.complex_core.specs.Complexes.{IsFacet}
 use Rattle.complex_core.proofs.Sets.{among, among-put, among-rising, same_members, Above, above_head, above_tail, not_among, sorted_put, sorted_none}
 use Rattle.complex_core.proofs.Faces.{among-has, short_filter, with_new, face_put, face_filter, less_cmp, equal_cmp, length-union}
 use Rattle.std.proofs.lemmas.List.Kept.{IsStrictlySortedBy-filter}

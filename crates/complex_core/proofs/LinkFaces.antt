@@ -7,7 +7,7 @@ use Rattle.std.specs.Cmp.Derive.{both_true}
 use Rattle.std.specs.Ordering.{nat_cmp}
 use Rattle.std.proofs.lemmas.Bool.Decides.{nat_tests}
 use Rattle.complex_core.specs.Labels.{IsFace, face_cmp, has, holds, without}
-use Rattle.complex_core.specs.Spaces.{Space, IsComplex, IsFacet, over, is_face, is_held}
+use Rattle.complex_core.specs.Complexes.{ComplexView, IsComplex, IsFacet, over, is_face, is_held}
 use Rattle.complex_core.specs.Links.{less, link}
 use Rattle.complex_core.specs.Rising.{rising}
 use Rattle.complex_core.proofs.Sets.{Above, above_head, above_tail}
@@ -50,7 +50,7 @@ links_pure d (f ∷ fs) s facets face few =
     ] refl
 
 -- the facets of a link, as the calls made them
-pub link_pure : (k : Space) (s : List ℕ) (d n : ℕ) (around shown items : List (List ℕ)) → IsComplex k → IsFace s → length s ≤ k.dim → d ≡ k.dim → n ≡ length s → around ≡ over k.facets s → shown ≡ around → items ≡ map (λ f. less f s) shown → AllByRecursion (IsFacet (d - n)) items
+pub link_pure : (k : ComplexView) (s : List ℕ) (d n : ℕ) (around shown items : List (List ℕ)) → IsComplex k → IsFace s → length s ≤ k.dim → d ≡ k.dim → n ≡ length s → around ≡ over k.facets s → shown ≡ around → items ≡ map (λ f. less f s) shown → AllByRecursion (IsFacet (d - n)) items
 link_pure k s d n around shown items h face few e f g i j =
     let P : ℕ → List (List ℕ) → Type 0 = λ m fs. AllByRecursion (IsFacet m) fs in
     let size : k.dim - length s ≡ d - n = λ t. sym e t - sym f t in
@@ -80,6 +80,6 @@ pub some_face : (fs around : List (List ℕ)) (s : List ℕ) → 0 < length s �
 some_face fs around s some e more = let t : nat_eq (length around) 0 ≡ false = grind (arith, nat_tests) in face_length fs around s some e ∙ ap not t
 
 -- the link that the calls made
-pub link_made : (k : Space) (s : List ℕ) (d n : ℕ) (around shown items : List (List ℕ)) (made : Space) → d ≡ k.dim → n ≡ length s → around ≡ over k.facets s → shown ≡ around → items ≡ map (λ f. less f s) shown → made ≡ record { dim = d - n; facets = rising face_cmp items } → made ≡ link k s
+pub link_made : (k : ComplexView) (s : List ℕ) (d n : ℕ) (around shown items : List (List ℕ)) (made : ComplexView) → d ≡ k.dim → n ≡ length s → around ≡ over k.facets s → shown ≡ around → items ≡ map (λ f. less f s) shown → made ≡ record { dim = d - n; facets = rising face_cmp items } → made ≡ link k s
 link_made k s d n around shown items made e f g h i j =
     j ∙ (λ t. record { dim = e t - f t; facets = rising face_cmp ((i ∙ ap (map (λ x. less x s)) (h ∙ g)) t) })

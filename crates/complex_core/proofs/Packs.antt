@@ -14,7 +14,7 @@ use Rattle.complex_core.specs.Packing.{weight_next, weight_pos, pack_unpack}
 use Rattle.complex_core.proofs.Sets.{Above, above_head}
 use Rattle.complex_core.proofs.Faces.{cmp_less, cmp_equal, cmp_greater, less_cmp, face_same, none_is_face}
 
--- each label is at least 1 and fits its place
+-- each label is at least 1 and fits its position
 abbrev pub AreLabels : List ℕ → Type 0
 AreLabels [] = Unit {0}
 AreLabels (x ∷ xs) = (0 < x) × (x < 65536) × AreLabels xs
@@ -44,7 +44,7 @@ face_labels xs h f = joined xs (above_head nat_cmp 0 xs h.rising) f
 pub packed_labels : (bits : ℕ) → IsPacked bits → AreLabels (unpack 8 bits)
 packed_labels bits h = face_labels (unpack 8 bits) h.face (unpack_fits 8 bits h.small)
 
--- what is packed stays below the next place
+-- what is packed stays below the next position
 pub pack_below : (n : ℕ) (xs : List ℕ) → AreLabels xs → pack n xs < weight n
 unfolding pack
 pack_below zero xs h = omega arith
@@ -121,7 +121,7 @@ pack_push zero k xs x e = absurd (omega (arith, e))
 pack_push (suc n) k [] x e = let f : n ≡ k = omega (arith, e) in ap (λ m. x * weight m + pack n []) f ∙ omega (arith, pack_none n)
 pack_push (suc n) k (y ∷ xs) x e = let ih : pack n (xs ++ x ∷ []) ≡ pack n xs + x * weight k = pack_push n k xs x (omega (arith, e)) in omega (arith, ih)
 
--- the label at a place, or 0
+-- the label at a position, or 0
 pub pack_label : (n k : ℕ) (xs : List ℕ) (i : ℕ) → i + k + 1 ≡ n → AreLabels xs → pack n xs / weight k % 65536 ≡ get_or xs i 0
 unfolding pack
 pack_label zero k xs i e h = absurd (omega (arith, e))
@@ -184,8 +184,8 @@ pub push_packed : (bits x shift : ℕ) (xs : List ℕ) → IsPacked bits → unp
 push_packed bits x shift xs h e face fit s =
     let few : length xs + 1 ≤ 8 = omega (arith, face.few, length-append xs (x ∷ [])) in
     let k = 7 - length xs in
-    let place : shift ≡ 16 * k = omega (arith, s, few) in
-    let whole : x * 2 ^ shift % 2 ^ 128 ≡ x * weight k = shl_whole x 16 shift 128 fit (omega (arith, s)) ∙ ap (λ m. x * 2 ^ m) place in
+    let position : shift ≡ 16 * k = omega (arith, s, few) in
+    let whole : x * 2 ^ shift % 2 ^ 128 ≡ x * weight k = shl_whole x 16 shift 128 fit (omega (arith, s)) ∙ ap (λ m. x * 2 ^ m) position in
     let sum : bits + x * 2 ^ shift % 2 ^ 128 ≡ pack 8 (xs ++ x ∷ []) = (λ i. number_is bits xs h e i + whole i) ∙ sym (pack_push 8 k xs x (omega (arith, few))) in
     packs _ (xs ++ x ∷ []) sum face (fit_push xs x (labels_fit bits xs h e) fit)
 
@@ -195,8 +195,8 @@ are_labels bits xs h e = let P : List ℕ → Type 0 = λ ys. AreLabels ys in su
 pub label_packed : (bits shift i : ℕ) (xs : List ℕ) → IsPacked bits → unpack 8 bits ≡ xs → shift + 16 * i ≡ 112 → bits / 2 ^ shift % 65536 ≡ get_or xs i 0
 label_packed bits shift i xs h e s =
     let k = 7 - i in
-    let place : shift ≡ 16 * k = omega (arith, s) in
-    (λ j. number_is bits xs h e j / 2 ^ place j % 65536) ∙ pack_label 8 k xs i (omega (arith, s)) (are_labels bits xs h e)
+    let position : shift ≡ 16 * k = omega (arith, s) in
+    (λ j. number_is bits xs h e j / 2 ^ position j % 65536) ∙ pack_label 8 k xs i (omega (arith, s)) (are_labels bits xs h e)
 
 pub first_packed : (bits : ℕ) (xs : List ℕ) → IsPacked bits → unpack 8 bits ≡ xs → bits / 2 ^ 112 ≡ get_or xs 0 0
 first_packed bits xs h e = sym (mod-eq_of_lt (div_below bits (2 ^ 112) 65536 (pow_pos 112) h.small)) ∙ label_packed bits 112 0 xs h e refl
@@ -212,7 +212,7 @@ each_place (a ∷ b ∷ c ∷ d ∷ e ∷ f ∷ []) few = refl
 each_place (a ∷ b ∷ c ∷ d ∷ e ∷ f ∷ g ∷ []) few = refl
 each_place (a ∷ b ∷ c ∷ d ∷ e ∷ f ∷ g ∷ h ∷ xs) few = refl
 
--- what stands at each place of a number
+-- what stands at each position of a number
 abbrev pub places_of : ℕ → List ℕ
 places_of b = b / 2 ^ 112 ∷ b / 2 ^ 96 % 65536 ∷ b / 2 ^ 80 % 65536 ∷ b / 2 ^ 64 % 65536 ∷ b / 2 ^ 48 % 65536 ∷ b / 2 ^ 32 % 65536 ∷ b / 2 ^ 16 % 65536 ∷ b % 65536 ∷ []
 

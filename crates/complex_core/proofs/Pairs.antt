@@ -112,7 +112,7 @@ differ_turned (p ∷ ps) d = (takes-turned ps p.1 ∙ d.1, reaches-turned ps p.0
 
 -- ---- what a label becomes
 
--- the pair at a place is the one that a search by its first number finds
+-- the pair at a position is the one that a search by its first number finds
 pub found_pair : (ps : List (ℕ × ℕ)) (x i : ℕ) (d : ℕ × ℕ) → Differ ps → i < length ps → (get_or ps i d).0 ≡ x → (takes ps x ≡ true) × ((get_or ps i d).1 ≡ at ps x)
 found_pair [] x i d differ l e = absurd (omega (arith, l))
 found_pair (p ∷ ps) x zero d differ l e = let t : nat_eq p.0 x ≡ true = grind (arith, nat_tests) in (ap (λ b. b || takes ps x) t, sym (ap (λ b. cond b p.1 (at ps x)) t))
@@ -186,10 +186,10 @@ first_searchable ps x s = λ i j d le l. elim (cases_lt i j) [
 ]
 
 -- where the search ends at no pair, there is none
-pub none_searched : (shown ps : List (ℕ × ℕ)) (x place : ℕ) → shown ≡ ps → IsStrictlySortedBy pair_cmp ps → IsBinarySearchResult (λ p. nat_cmp p.0 x) shown (Err place) → takes ps x ≡ false
-none_searched shown ps x place e s =
-    let P : List (ℕ × ℕ) → Type 0 = λ qs. IsBinarySearchResult (λ p. nat_cmp p.0 x) qs (Err place) → takes ps x ≡ false in
-    subst P (sym e) (λ search. missing_pair ps x (0, 0) (λ k l. elim (cases_lt k place) [
+pub none_searched : (shown ps : List (ℕ × ℕ)) (x position : ℕ) → shown ≡ ps → IsStrictlySortedBy pair_cmp ps → IsBinarySearchResult (λ p. nat_cmp p.0 x) shown (Err position) → takes ps x ≡ false
+none_searched shown ps x position e s =
+    let P : List (ℕ × ℕ) → Type 0 = λ qs. IsBinarySearchResult (λ p. nat_cmp p.0 x) qs (Err position) → takes ps x ≡ false in
+    subst P (sym e) (λ search. missing_pair ps x (0, 0) (λ k l. elim (cases_lt k position) [
       | inl low ↦ let c : nat_cmp (get_or ps k (0, 0)).0 x ≡ Less = (search (first_searchable ps x s)).0 k (0, 0) (omega arith) low in let n : (get_or ps k (0, 0)).0 < x = less_cmp _ _ c in grind (arith, nat_tests)
       | inr high ↦ let c : nat_cmp (get_or ps k (0, 0)).0 x ≡ Greater = (search (first_searchable ps x s)).1 k (0, 0) high l in let n : x < (get_or ps k (0, 0)).0 = greater_cmp _ _ c in grind (arith, nat_tests)
     ]))
@@ -197,9 +197,9 @@ none_searched shown ps x place e s =
     greater_cmp : (x y : ℕ) → nat_cmp x y ≡ Greater → y < x
     greater_cmp x y h = grind (arith, nat_tests)
 
-pub one_searched : (shown ps : List (ℕ × ℕ)) (x place : ℕ) (p : ℕ × ℕ) → shown ≡ ps → Differ ps → place < length shown → IsBinarySearchResult (λ q. nat_cmp q.0 x) shown (Ok place) → p ≡ get_or ps place p → (takes ps x ≡ true) × (p.1 ≡ at ps x)
-one_searched shown ps x place p e differ =
-    let P : List (ℕ × ℕ) → Type 0 = λ qs. place < length qs → IsBinarySearchResult (λ q. nat_cmp q.0 x) qs (Ok place) → p ≡ get_or ps place p → (takes ps x ≡ true) × (p.1 ≡ at ps x) in
+pub one_searched : (shown ps : List (ℕ × ℕ)) (x position : ℕ) (p : ℕ × ℕ) → shown ≡ ps → Differ ps → position < length shown → IsBinarySearchResult (λ q. nat_cmp q.0 x) shown (Ok position) → p ≡ get_or ps position p → (takes ps x ≡ true) × (p.1 ≡ at ps x)
+one_searched shown ps x position p e differ =
+    let P : List (ℕ × ℕ) → Type 0 = λ qs. position < length qs → IsBinarySearchResult (λ q. nat_cmp q.0 x) qs (Ok position) → p ≡ get_or ps position p → (takes ps x ≡ true) × (p.1 ≡ at ps x) in
     subst P (sym e) (λ l search item.
-    let r : (takes ps x ≡ true) × ((get_or ps place p).1 ≡ at ps x) = found_pair ps x place p differ l (equal_cmp _ _ (search p)) in
+    let r : (takes ps x ≡ true) × ((get_or ps position p).1 ≡ at ps x) = found_pair ps x position p differ l (equal_cmp _ _ (search p)) in
     (r.0, ap (λ q. q.1) item ∙ r.1))

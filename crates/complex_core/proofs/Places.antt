@@ -137,7 +137,7 @@ at_back (p ∷ ps) y d r =
           ap (λ b. cond b p.1 (at ps z)) (other_key ps p.0 z d.0 there) ∙ at_back ps y d.2 s
     ] refl r
 
--- the place that a label has is taken
+-- the position that a label has is taken
 pub place_taken : (ps : List (ℕ × ℕ)) (y : ℕ) → reaches ps y ≡ true → takes ps (at (turned ps) y) ≡ true
 place_taken ps y r = sym (reaches-turned ps (at (turned ps) y)) ∙ reaches_at (turned ps) y (takes-turned ps y ∙ r)
 

@@ -13,7 +13,7 @@ use Rattle.std.specs.Option.{SomeIff}
 use Rattle.std.proofs.lemmas.List.Folds.{list_any-append}
 use Rattle.complex_core.specs.Labels.{IsRising, has, face_cmp}
 use Rattle.complex_core.specs.Rising.{rising}
-use Rattle.complex_core.specs.Spaces.{Space, IsComplex, IsFacet}
+use Rattle.complex_core.specs.Complexes.{ComplexView, IsComplex, IsFacet}
 use Rattle.complex_core.specs.Maps.{Differ, pair_cmp, takes, reaches, turned, at, face_image, face_images, image, takes_all, used, greatest, next_after, renamed, names_of}
 use Rattle.complex_core.proofs.Sets.{above_cons, above_head, above_tail, among-rising, any-rising, each_rising, rising_is, sorted_rising}
 use Rattle.complex_core.proofs.Searching.{rising_own}
@@ -101,14 +101,14 @@ rising_names : (d : ℕ) (fs : List (List ℕ)) (room : ℕ) → AllByRecursion 
 rising_names d fs room h = rising_spare (used fs) room (above_cons nat_cmp 0 (used fs) (each_rising nat_cmp (λ y. nat_cmp 0 y ≡ Less) (flat_map (λ f. f) fs) (labels_above d fs h)) (sorted_rising nat_cmp_total (flat_map (λ f. f) fs)))
 
 -- the names of the places of a complex, and its renaming by them
-pub record Named (k : Space) (room : ℕ) : Type 0 where
+pub record Named (k : ComplexView) (room : ℕ) : Type 0 where
   pub labels : IsRising (used k.facets ++ next_after (greatest (used k.facets)) room)
   pub taken : takes_all (rising pair_cmp (turned (names_of k.facets room))) k.facets ≡ true
   pub places : rising pair_cmp (turned (names_of k.facets room)) ≡ turned (names_of k.facets room)
   pub taken_back : takes_all (names_of k.facets room) (image (turned (names_of k.facets room)) k.facets) ≡ true
   pub back : image (names_of k.facets room) (image (turned (names_of k.facets room)) k.facets) ≡ k.facets
 
-pub named : (k : Space) (room : ℕ) → IsComplex k → Named k room
+pub named : (k : ComplexView) (room : ℕ) → IsComplex k → Named k room
 named k room h =
     let m = names_of k.facets room in
     let labels : IsRising (used k.facets ++ next_after (greatest (used k.facets)) room) = rising_names k.dim k.facets room h.pure in
@@ -128,26 +128,26 @@ pub spare_added : (fs : List (List ℕ)) (labels seen all shown : List ℕ) (mos
 spare_added fs labels seen all shown most room e f g h i =
     i ∙ h ∙ (λ j. e j ++ next_after ((g ∙ ap greatest (f ∙ e)) j) room)
 
-abbrev Renamed : Space → List (ℕ × ℕ) → Option Space → Type 0
+abbrev Renamed : ComplexView → List (ℕ × ℕ) → Option ComplexView → Type 0
 Renamed k places r = SomeIff r (takes_all places k.facets ≡ true) (renamed k places)
 
-pub none_refused : (k : Space) (room : ℕ) (names places : List (ℕ × ℕ)) (r : Option Space) → IsComplex k → names ≡ names_of k.facets room → places ≡ rising pair_cmp (turned names) → SomeIff r (takes_all places k.facets ≡ true) (renamed k places) → r ≡ None → ⊥
+pub none_refused : (k : ComplexView) (room : ℕ) (names places : List (ℕ × ℕ)) (r : Option ComplexView) → IsComplex k → names ≡ names_of k.facets room → places ≡ rising pair_cmp (turned names) → SomeIff r (takes_all places k.facets ≡ true) (renamed k places) → r ≡ None → ⊥
 none_refused k room names places r h en ep s e =
-    let P : Option Space → Type 0 = λ q. Renamed k places q in
+    let P : Option ComplexView → Type 0 = λ q. Renamed k places q in
     subst P e s (ap (λ ps. takes_all ps k.facets) (ep ∙ ap (λ ns. rising pair_cmp (turned ns)) en) ∙ (named k room h).taken)
 
-pub some_renamed : (k : Space) (room : ℕ) (names places : List (ℕ × ℕ)) (r : Option Space) (dense : Space) → IsComplex k → names ≡ names_of k.facets room → places ≡ rising pair_cmp (turned names) → SomeIff r (takes_all places k.facets ≡ true) (renamed k places) → r ≡ Some dense → dense ≡ renamed k (turned names)
+pub some_renamed : (k : ComplexView) (room : ℕ) (names places : List (ℕ × ℕ)) (r : Option ComplexView) (dense : ComplexView) → IsComplex k → names ≡ names_of k.facets room → places ≡ rising pair_cmp (turned names) → SomeIff r (takes_all places k.facets ≡ true) (renamed k places) → r ≡ Some dense → dense ≡ renamed k (turned names)
 some_renamed k room names places r dense h en ep s e =
-    let P : Option Space → Type 0 = λ q. Renamed k places q in
+    let P : Option ComplexView → Type 0 = λ q. Renamed k places q in
     let made : Renamed k places (Some dense) = subst P e s in
     let n : Named k room = named k room h in
     made.1 ∙ ap (renamed k) (ep ∙ ap (λ ns. rising pair_cmp (turned ns)) en ∙ n.places ∙ ap turned (sym en))
 
-pub dense_taken : (k : Space) (room : ℕ) (names : List (ℕ × ℕ)) (dense : Space) → IsComplex k → names ≡ names_of k.facets room → dense ≡ renamed k (turned names) → takes_all names dense.facets ≡ true
+pub dense_taken : (k : ComplexView) (room : ℕ) (names : List (ℕ × ℕ)) (dense : ComplexView) → IsComplex k → names ≡ names_of k.facets room → dense ≡ renamed k (turned names) → takes_all names dense.facets ≡ true
 dense_taken k room names dense h en e =
     ap (λ c. takes_all names c.facets) e ∙ ap (λ ns. takes_all ns (image (turned ns) k.facets)) en ∙ (named k room h).taken_back
 
-pub dense_back : (k : Space) (room : ℕ) (names : List (ℕ × ℕ)) (dense : Space) → IsComplex k → names ≡ names_of k.facets room → dense ≡ renamed k (turned names) → renamed dense names ≡ k
+pub dense_back : (k : ComplexView) (room : ℕ) (names : List (ℕ × ℕ)) (dense : ComplexView) → IsComplex k → names ≡ names_of k.facets room → dense ≡ renamed k (turned names) → renamed dense names ≡ k
 dense_back k room names dense h en e =
     let facets : image names dense.facets ≡ k.facets = ap (λ c. image names c.facets) e ∙ ap (λ ns. image ns (image (turned ns) k.facets)) en ∙ (named k room h).back in
     let dim : dense.dim ≡ k.dim = ap (λ c. c.dim) e in

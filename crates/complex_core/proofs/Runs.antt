@@ -10,7 +10,7 @@ use Rattle.std.proofs.lemmas.Bool.Decides.{nat_tests}
 use Rattle.std.proofs.lemmas.List.{take-append-drop}
 use Rattle.std.proofs.lemmas.Map.Keys.{Less-from_sorted}
 use Rattle.complex_core.specs.Labels.{IsFace, face_cmp, holds}
-use Rattle.complex_core.specs.Spaces.{IsFacet, over, is_held}
+use Rattle.complex_core.specs.Complexes.{IsFacet, over, is_held}
 use Rattle.complex_core.proofs.Sets.{above_tail, sorted_front}
 use Rattle.complex_core.proofs.Faces.{less_cmp, equal_cmp}
 use Rattle.complex_core.proofs.Subsets.{next_missing}
@@ -56,11 +56,11 @@ over_cut d (f ∷ fs) set zero facets some behind =
 over_cut d (f ∷ fs) set (suc n) facets some behind =
     ap (λ gs. cond (holds f set) (f ∷ gs) gs) (over_cut d fs set n facets.1 some (λ k e low high. behind (suc k) e (omega arith) (omega arith)))
 
--- the run up to the place where the least labels exceed the set's
+-- the run up to the position where the least labels exceed the set's
 pub over_run : (d : ℕ) (fs shown cut : List (List ℕ)) (set : List ℕ) (s n : ℕ) → shown ≡ fs → cut ≡ fs → s ≡ least set → 0 < length set → AllByRecursion (IsFacet d) fs → IsPartitionPoint (λ f. nat_le (least f) s ≡ true) (λ f. nat_le (least f) s ≡ false) shown n → over (take n cut) set ≡ over fs set
-over_run d fs shown cut set s n shows cuts first some facets place =
+over_run d fs shown cut set s n shows cuts first some facets position =
     let P : List (List ℕ) → ℕ → Type 0 = λ gs m. AllWithin (λ f. nat_le (least f) m ≡ false) gs n (length gs) in
-    let behind : P fs (least set) = subst (λ (m : ℕ). P fs m) first (subst (λ (gs : List (List ℕ)). P gs s) shows place.1) in
+    let behind : P fs (least set) = subst (λ (m : ℕ). P fs m) first (subst (λ (gs : List (List ℕ)). P gs s) shows position.1) in
     ap (λ gs. over (take n gs) set) cuts ∙ over_cut d fs set n facets some behind
 
 pub sorted_run : (fs cut : List (List ℕ)) (n : ℕ) → cut ≡ fs → IsStrictlySortedBy face_cmp fs → IsStrictlySortedBy face_cmp (take n cut)

@@ -1,4 +1,4 @@
--- Where a search over a rising list ends, and what an edit at that place makes.
+-- Where a search over a rising list ends, and what an edit at that position makes.
 use Rattle.std.proofs.Common.{◌≡◌, ℕ, ◌+◌, ◌<◌, ◌≤◌, zero, suc, get_or, Result, Ok, Err, List, [], ◌∷◌, ◌++◌, length, filter, Bool, true, false, not, cond, ◌||◌, sym, ◌∙◌, ap, refl, subst, arith}
 use Rattle.std.specs.List.{insert, remove}
 use Rattle.std.specs.List.Sorted.{IsStrictlySortedBy, IsSorted, IsNonDecreasingBy, IsBinarySearchResult, IsSearchInRange}
@@ -19,13 +19,13 @@ to_end true false = refl
 to_end false true = refl
 to_end false false = refl
 
--- the place of a member, and the list without it
+-- the position of a member, and the list without it
 pub record Stands {K : Type 0} (R : K → K → Ordering) (xs : List K) (x : K) (at : ℕ) : Type 0 where
   pub there : among R x xs ≡ true
   pub same : put R x xs ≡ xs
   pub removed : remove xs at ≡ filter (λ y. not (eq_by_cmp R y x)) xs
 
--- the place where something new goes, and the list with it
+-- the position where something new goes, and the list with it
 pub record Missing {K : Type 0} (R : K → K → Ordering) (xs : List K) (x : K) (at : ℕ) : Type 0 where
   pub absent : among R x xs ≡ false
   pub inserted : insert xs at x ≡ put R x xs
@@ -102,9 +102,9 @@ module _ {K : Type 0} {R : K → K → Ordering} (o : IsTotalOrder R) (exact : (
       let e : R (get_or xs at x) x ≡ Equal = found x in
       let t : among R x xs ≡ true = among_at xs x at within (o.antisymm x (get_or xs at x) ∙ ap ordering_reverse e) in
       record { there = t; same = put_there_same o x xs s t; removed = remove_at xs x at within s e }
-  searched_for xs x (Err at) s within place =
-      let low : (k : ℕ) → k < at → R (get_or xs k x) x ≡ Less = λ k h. (place (searchable o xs x s)).0 k x (omega arith) h in
-      let high : (k : ℕ) → at ≤ k → k < length xs → R (get_or xs k x) x ≡ Greater = λ k h m. (place (searchable o xs x s)).1 k x h m in
+  searched_for xs x (Err at) s within position =
+      let low : (k : ℕ) → k < at → R (get_or xs k x) x ≡ Less = λ k h. (position (searchable o xs x s)).0 k x (omega arith) h in
+      let high : (k : ℕ) → at ≤ k → k < length xs → R (get_or xs k x) x ≡ Greater = λ k h m. (position (searchable o xs x s)).1 k x h m in
       let f : among R x xs ≡ false = absent_at o xs x at low high in
       record { absent = f; inserted = insert_at o xs x at within low high; same = keep_absent o xs x f }
 

@@ -9,7 +9,7 @@ use Rattle.std.proofs.lemmas.List.Folds.{list_any-append}
 use Rattle.complex_core.specs.Labels.{has, holds, face_cmp}
 use Rattle.complex_core.specs.Maps.{used}
 use Rattle.complex_core.specs.Rising.{put, rising}
-use Rattle.complex_core.specs.Spaces.{IsFacet, over}
+use Rattle.complex_core.specs.Complexes.{IsFacet, over}
 use Rattle.complex_core.proofs.Booleans.{and_false}
 use Rattle.complex_core.proofs.Sets.{among-rising}
 use Rattle.complex_core.proofs.Faces.{among-has}

@@ -8,7 +8,7 @@ use Rattle.std.specs.FinSet.{slice_cmp-IsAntisymmetric, nat_cmp-IsAntisymmetric}
 use Rattle.complex_core.specs.Labels.{face_cmp, IsFace}
 use Rattle.std.proofs.Math.Seq.{take-length}
 use Rattle.complex_core.specs.Rising.{rising}
-use Rattle.complex_core.specs.Spaces.{IsComplex, IsFacet}
+use Rattle.complex_core.specs.Complexes.{IsComplex, IsFacet}
 use Rattle.complex_core.specs.ComplexFaults.{CanMake, first_size}
 use Rattle.complex_core.proofs.SortAny.{sorted_any}
 use Rattle.complex_core.proofs.Sets.{some_rising, sorted_rising, each_rising}

@@ -5,7 +5,7 @@ pub mod FaceFaults
 pub mod Padding
 pub mod Packed
 pub mod Packing
-pub mod Spaces
+pub mod Complexes
 pub mod ComplexFaults
 pub mod Maps
 pub mod MapFaults

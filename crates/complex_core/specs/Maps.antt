@@ -9,7 +9,7 @@ use Rattle.std.specs.Ordering.{nat_cmp, ordering_then}
 use Rattle.std.specs.declared.cmp.Ordering.{Ordering}
 use Rattle.complex_core.specs.Labels.{face_cmp}
 use Rattle.complex_core.specs.Rising.{rising}
-use Rattle.complex_core.specs.Spaces.{Space}
+use Rattle.complex_core.specs.Complexes.{ComplexView}
 
 -- by the first numbers, and by the second ones where these are equal
 abbrev pub pair_cmp : ℕ × ℕ → ℕ × ℕ → Ordering
@@ -69,13 +69,13 @@ abbrev pub next_after : ℕ → ℕ → List ℕ
 next_after n zero = []
 next_after n (suc room) = (n + 1) ∷ next_after (n + 1) room
 
--- each number of a list after its place, which is counted on from k
+-- each number of a list after its position, which is counted on from k
 abbrev pub numbered : ℕ → List ℕ → List (ℕ × ℕ)
 numbered k [] = []
 numbered k (x ∷ xs) = (k, x) ∷ numbered (k + 1) xs
 
 -- a complex with each label replaced by the one that it becomes
-abbrev pub renamed : Space → List (ℕ × ℕ) → Space
+abbrev pub renamed : ComplexView → List (ℕ × ℕ) → ComplexView
 renamed k m = record { dim = k.dim; facets = image m k.facets }
 
 -- the names of the places from 1 on: the used labels, rising, and as many labels above the greatest as there is room for

@@ -1,4 +1,4 @@
--- Labels in one number: sixteen bits for each place, the first label highest, zeros behind the last.
+-- Labels in one number: sixteen bits for each position, the first label highest, zeros behind the last.
 use Rattle.std.proofs.Common.{ℕ, zero, suc, ◌+◌, ◌*◌, ◌/◌, ◌%◌, ◌^◌, ◌<◌, cond, nat_eq, List, [], ◌∷◌}
 use Rattle.complex_core.specs.Labels.{IsFace}
 

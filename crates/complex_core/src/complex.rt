@@ -5,7 +5,7 @@ ghost use Rattle.std.specs.List.Sorted.{IsStrictlySortedBy};
 ghost use Rattle.std.specs.Ordering.{nat_cmp};
 ghost use Rattle.complex_core.specs.Labels.{face_cmp};
 ghost use Rattle.complex_core.specs.Rising.{put, rising};
-ghost use Rattle.complex_core.specs.Spaces.{IsComplex, IsFacet, over, staying, is_face, is_held, is_facet};
+ghost use Rattle.complex_core.specs.Complexes.{IsComplex, IsFacet, over, staying, is_face, is_held, is_facet};
 ghost use Rattle.complex_core.specs.ComplexFaults.{FacetsRefused, CanMake, first_size};
 ghost use Rattle.complex_core.specs.declared.complex.ComplexFault.TheVariants.{Memory};
 
@@ -22,9 +22,9 @@ pub struct Complex {
 }
 
 impl Model for Complex {
-    ghost use Rattle.complex_core.specs.Spaces.{Space, IsComplex};
+    ghost use Rattle.complex_core.specs.Complexes.{ComplexView, IsComplex};
 
-    ghost Value = { Space };
+    ghost Value = { ComplexView };
 
     ghost view = { λ k. record { dim = k.dim; facets = k.facets.items } };
 
@@ -38,7 +38,7 @@ pub enum ComplexFault {
     Empty,
     /// The first has this many labels, which is 0 or 8.
     Limit(usize),
-    /// The one at this place, from 0, is the first of another size than the first one's.
+    /// The one at this position, from 0, is the first of another size than the first one's.
     Mixed(usize),
     /// There is no memory left.
     Memory,
@@ -93,8 +93,8 @@ fn take_out(sets: &mut Vec<Face>, set: &Face)
     ensures len { vec_len sets.new ≤ vec_len sets.old }
     ensures capacity { vec_capacity sets.new ≡ vec_capacity sets.old }
 {
-    if let Ok(place) = sets.binary_search(set) {
-        sets.remove(place);
+    if let Ok(position) = sets.binary_search(set) {
+        sets.remove(position);
     }
 }
 
@@ -119,8 +119,8 @@ fn put_in(sets: &mut Vec<Face>, set: &Face)
     ensures len { vec_len sets.new ≤ vec_len sets.old + 1 }
     ensures capacity { vec_capacity sets.new ≡ vec_capacity sets.old }
 {
-    if let Err(place) = sets.binary_search(set) {
-        sets.insert(place, *set).unwrap();
+    if let Err(position) = sets.binary_search(set) {
+        sets.insert(position, *set).unwrap();
     }
 }
 
@@ -154,9 +154,9 @@ impl Complex {
         if size == 0 || size == 8 {
             return Err(ComplexFault::Limit(size));
         }
-        for (place, facet) in facets.iter().enumerate() {
+        for (position, facet) in facets.iter().enumerate() {
             if facet.len() != size {
-                return Err(ComplexFault::Mixed(place));
+                return Err(ComplexFault::Mixed(position));
             }
         }
         let mut all = Vec::from_slice(alloc, facets)?;

@@ -21,7 +21,7 @@ use std::simd::prelude::*;
 /// label, and a proper prefix is less.
 #[derive(Clone, Copy)]
 pub struct Face {
-    // The label at place k, from 0, stands in the bits from 112 - 16k on, and zeros behind the
+    // The label at position k, from 0, stands in the bits from 112 - 16k on, and zeros behind the
     // last one. So the order of faces is that of their numbers.
     bits: u128,
 }
@@ -47,7 +47,7 @@ impl Model for Face {
 pub enum FaceFault {
     /// There are this many, more than eight.
     TooMany(usize),
-    /// The one at this place, from 0, is the first that isn't above the one before it; before
+    /// The one at this position, from 0, is the first that isn't above the one before it; before
     /// the first one stands 0.
     NotRising(usize),
 }
@@ -66,9 +66,9 @@ impl Face {
         }
         let mut all = Face::new();
         let mut before = 0;
-        for (place, label) in labels.iter().enumerate() {
+        for (position, label) in labels.iter().enumerate() {
             if *label <= before {
-                return Err(FaceFault::NotRising(place));
+                return Err(FaceFault::NotRising(position));
             }
             all.push(*label);
             before = *label;
@@ -129,24 +129,24 @@ impl Face {
     pub fn holds(&self, other: &Face) -> bool
         ensures { result ≡ holds self.now other.now }
     {
-        for place in 0..other.len() {
-            if !self.contains(other.label(place)) {
+        for position in 0..other.len() {
+            if !self.contains(other.label(position)) {
                 return false;
             }
         }
         true
     }
 
-    /// The label at this place, from 0.
-    pub fn label(&self, place: usize) -> u16
-        requires { place < length self.now }
-        ensures label { result ≡ slice_index self.now place }
+    /// The label at this position, from 0.
+    pub fn label(&self, position: usize) -> u16
+        requires { position < length self.now }
+        ensures label { result ≡ slice_index self.now position }
         ensures face { IsFace self.now }
     {
-        ((self.bits >> (112 - 16 * place)) % 65536) as u16
+        ((self.bits >> (112 - 16 * position)) % 65536) as u16
     }
 
-    // The labels and the zeros behind them as lanes, the last place first.
+    // The labels and the zeros behind them as lanes, the last position first.
     fn lanes(&self) -> u16x8
         ensures eight { length result ≡ 8 }
         ensures lanes { (x : ℕ) → 0 < x → has result x ≡ has self.now x }
@@ -181,50 +181,50 @@ impl Face {
         (self.bits >> 112) as u16
     }
 
-    // The number with zeros from this place on.
-    fn front(&self, place: usize) -> u128
-        requires room { place ≤ 7 }
-        requires inside { place ≤ length self.now }
-        ensures { result ≡ pack 8 (take place self.now) }
+    // The number with zeros from this position on.
+    fn front(&self, position: usize) -> u128
+        requires room { position ≤ 7 }
+        requires inside { position ≤ length self.now }
+        ensures { result ≡ pack 8 (take position self.now) }
     {
-        let shift = 112 - 16 * place;
+        let shift = 112 - 16 * position;
         self.bits >> shift >> 16 << 16 << shift
     }
 
-    // The number with zeros up to this place.
-    fn behind(&self, place: usize) -> u128
-        requires { place < length self.now }
-        ensures { result ≡ pack (7 - place) (drop (place + 1) self.now) }
+    // The number with zeros up to this position.
+    fn behind(&self, position: usize) -> u128
+        requires { position < length self.now }
+        ensures { result ≡ pack (7 - position) (drop (position + 1) self.now) }
     {
         let bits = self.bits;
-        let shift = 112 - 16 * place;
+        let shift = 112 - 16 * position;
         bits - (bits >> shift << shift)
     }
 
-    // A label at this place, and those from there on behind it.
-    fn insert(&self, place: usize, label: u16) -> Face
-        requires place { place ≤ length self.now }
-        requires face { IsFace (insert self.now place label) }
-        ensures { result ≡ insert self.now place label }
+    // A label at this position, and those from there on behind it.
+    fn insert(&self, position: usize, label: u16) -> Face
+        requires position { position ≤ length self.now }
+        requires face { IsFace (insert self.now position label) }
+        ensures { result ≡ insert self.now position label }
     {
-        let front = self.front(place);
+        let front = self.front(position);
         let behind = (self.bits - front) >> 16;
-        let next = (label as u128) << (112 - 16 * place);
+        let next = (label as u128) << (112 - 16 * position);
         Face {
             bits: front + next + behind,
         }
     }
 
-    // All labels but the one at this place.
-    fn remove(&self, place: usize) -> Face
-        requires inside { place < length self.now }
-        requires face { IsFace (remove self.now place) }
-        ensures { result ≡ remove self.now place }
+    // All labels but the one at this position.
+    fn remove(&self, position: usize) -> Face
+        requires inside { position < length self.now }
+        requires face { IsFace (remove self.now position) }
+        ensures { result ≡ remove self.now position }
     {
         // There are at most eight labels: the invariant says so.
         let _ = &self.bits;
         Face {
-            bits: self.front(place) + (self.behind(place) << 16),
+            bits: self.front(position) + (self.behind(position) << 16),
         }
     }
 
@@ -239,7 +239,7 @@ impl Face {
         match self.labels().binary_search(&label) {
             Ok(_) => Some(*self),
             Err(_) if self.len() == 8 => None,
-            Err(place) => Some(self.insert(place, label)),
+            Err(position) => Some(self.insert(position, label)),
         }
     }
 
@@ -248,7 +248,7 @@ impl Face {
         ensures { result ≡ without self.now label }
     {
         match self.labels().binary_search(&label) {
-            Ok(place) => self.remove(place),
+            Ok(position) => self.remove(position),
             Err(_) => *self,
         }
     }
@@ -259,8 +259,8 @@ impl Face {
     {
         let mut all = *self;
         let _ = &self.bits;
-        for place in 0..other.len() {
-            match all.with(other.label(place)) {
+        for position in 0..other.len() {
+            match all.with(other.label(position)) {
                 Some(more) => all = more,
                 None => return None,
             }
@@ -273,8 +273,8 @@ impl Face {
         ensures { result ≡ less self.now other.now }
     {
         let mut all = *self;
-        for place in 0..other.len() {
-            all = all.without(other.label(place));
+        for position in 0..other.len() {
+            all = all.without(other.label(position));
         }
         all
     }

@@ -1,7 +1,7 @@
 // The link of a face.
 ghost use Rattle.std.specs.Prelude.{◌≡◌, ◌≤◌, ◌<◌, IfOk, length, map, true};
 ghost use Rattle.std.specs.Option.{SomeIff};
-ghost use Rattle.complex_core.specs.Spaces.{is_face};
+ghost use Rattle.complex_core.specs.Complexes.{is_face};
 ghost use Rattle.complex_core.specs.Links.{less, link};
 
 use crate::{Complex, Face};

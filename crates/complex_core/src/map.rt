@@ -31,7 +31,7 @@ impl Model for VertexMap {
 /// Why pairs of numbers are no map.
 #[derive(Clone, Copy, Debug, PartialEq, Eq)]
 pub enum MapFault {
-    /// The pair at this place, from 0, is the first with the first or the second number of an
+    /// The pair at this position, from 0, is the first with the first or the second number of an
     /// earlier pair.
     Twice(usize),
     /// There is no memory left.
@@ -54,8 +54,8 @@ impl VertexMap {
         ensures can { OnOk result (Differ pairs.now) }
         ensures err { IfErr result (PairsRefused pairs.now) }
     {
-        if let Some(place) = first_twice(alloc, pairs)? {
-            return Err(MapFault::Twice(place));
+        if let Some(position) = first_twice(alloc, pairs)? {
+            return Err(MapFault::Twice(position));
         }
         Ok(VertexMap::sorted(Vec::from_slice(alloc, pairs)?))
     }
@@ -76,8 +76,8 @@ impl VertexMap {
         ensures { IfOk result (λ m. m ≡ numbered 1 labels.now) }
     {
         let mut pairs = Vec::new(alloc);
-        for (place, label) in labels.iter().enumerate() {
-            pairs.push((place as u16 + 1, *label))?;
+        for (position, label) in labels.iter().enumerate() {
+            pairs.push((position as u16 + 1, *label))?;
         }
         Ok(VertexMap { pairs })
     }
@@ -88,7 +88,7 @@ impl VertexMap {
         ensures map { IsMap self.now }
     {
         match self.pairs.binary_search_by_key(&label, |pair| pair.0) {
-            Ok(place) => Some(self.pairs[place].1),
+            Ok(position) => Some(self.pairs[position].1),
             Err(_) => None,
         }
     }
@@ -111,18 +111,18 @@ impl VertexMap {
     }
 }
 
-// The first place whose pair has the first or the second number of an earlier pair.
+// The first position whose pair has the first or the second number of an earlier pair.
 fn first_twice(alloc: Global, pairs: &[(u16, u16)]) -> Result<Option<usize>, AllocError>
-    ensures { IfOk result (λ place. MatchOption place (Differ pairs.now) (IsFirstTwice pairs.now)) }
+    ensures { IfOk result (λ position. MatchOption position (Differ pairs.now) (IsFirstTwice pairs.now)) }
 {
     let mut firsts = BTreeSet::new(alloc);
     let mut seconds = BTreeSet::new(alloc);
-    for (place, pair) in pairs.iter().enumerate() {
+    for (position, pair) in pairs.iter().enumerate() {
         if !firsts.insert(pair.0)? {
-            return Ok(Some(place));
+            return Ok(Some(position));
         }
         if !seconds.insert(pair.1)? {
-            return Ok(Some(place));
+            return Ok(Some(position));
         }
     }
     Ok(None)

@@ -9,19 +9,19 @@ use Rattle.std.proofs.lemmas.Cmp.{nat_cmp_total}
 use Rattle.std.proofs.lemmas.List.Kept.{IsStrictlySortedBy-filter}
 use Rattle.complex_core.specs.Labels.{has, holds, with, without, face_cmp, IsFace}
 use Rattle.complex_core.specs.Rising.{rising}
-use Rattle.complex_core.specs.Spaces.{Space, IsComplex, IsFacet, over, is_held, is_facet}
+use Rattle.complex_core.specs.Complexes.{ComplexView, IsComplex, IsFacet, over, is_held, is_facet}
 use Rattle.complex_core.proofs.Sets.{above_head, above_tail, sorted_put, sorted_rising}
 use Rattle.complex_core.proofs.Faces.{less_cmp, face_put, with_new}
 use Rattle.complex_core.proofs.SubsetLists.{above_at, part_is_face, two, clash}
 use Rattle.complex_core.proofs.Laws.{both_ways, has-with, holds_has, or_left, or_right, listed, listed-filter, listed-rising, found, some_has, some_listed, same_lists, same_sets_is, same_set_itself, length-without, nat_eq_is, nat_eq_same}
 use Rattle.flip_rules.specs.Boundaries.{IsBoundary}
-use Rattle.flip_rules.specs.Flips.{sides, Legal}
+use Rattle.flip_rules.specs.Flips.{join_boundary, Legal}
 use Rattle.flip_rules.specs.declared.flip.Flip.{Flip}
-use Rattle.flip_rules.proofs.Links.{side, side_of, listed-sides}
+use Rattle.flip_rules.proofs.Links.{side, side_of, listed-join_boundary}
 use Rattle.flip_rules.proofs.Legal.{legal_from}
 use Rattle.pseudo_test.specs.Ridges.{count}
 use Rattle.pseudo_test.specs.Chains.{Near}
-use Rattle.pseudo_test.proofs.Sided.{found_set}
+use Rattle.pseudo_test.proofs.Incident.{found_set}
 use Rattle.pseudo_test.proofs.Spreading.{apart_law}
 use Rattle.flip_laws.specs.Keeping.{Keeps}
 use Rattle.flip_laws.proofs.RidgesKept.{listed-map}
@@ -48,7 +48,7 @@ over_one fs p f t =
 one_over : (fs : List (List ℕ)) (p : ℕ) (f : List ℕ) → listed fs f ≡ true → has f p ≡ true → listed (over fs (p ∷ [])) f ≡ true
 one_over fs p f t h = listed-filter (λ g. holds g (p ∷ [])) fs f ∙ both_true t (both_true h refl)
 
-module _ (k : Space) (h : IsCycle k) where
+module _ (k : ComplexView) (h : IsCycle k) where
   facet : (f : List ℕ) → listed k.facets f ≡ true → IsFacet k.dim f
   facet f t = pure_at k.dim k.facets f h.complex.pure t
 
@@ -88,20 +88,20 @@ module _ (k : Space) (h : IsCycle k) where
     swapped : side (v ∷ []) (edge x y) y ≡ edge v x
     swapped = ap (λ b. side (v ∷ []) b y) (edge_swap x y xy) ∙ side_edge v y x vy vx (λ e. xy (sym e))
 
-    two_sides : HasTwo (rising face_cmp (sides (v ∷ []) (edge x y))) (edge v x) (edge v y)
+    two_sides : HasTwo (rising face_cmp (join_boundary (v ∷ []) (edge x y))) (edge v x) (edge v y)
     two_sides = record {
       first = there y (edge v x) (edge_second x y) swapped;
       second = there x (edge v y) (edge_first x y) (side_edge v x y vx vy xy);
       only = λ g t.
-          let r : (z : ℕ) × (has (edge x y) z ≡ true) × (g ≡ side (v ∷ []) (edge x y) z) = side_of (v ∷ []) (edge x y) g (sym (listed-rising (sides (v ∷ []) (edge x y)) g) ∙ t) in
+          let r : (z : ℕ) × (has (edge x y) z ≡ true) × (g ≡ side (v ∷ []) (edge x y) z) = side_of (v ∷ []) (edge x y) g (sym (listed-rising (join_boundary (v ∷ []) (edge x y)) g) ∙ t) in
           elim (edge_has x y r.0 r.1) [
             | inl e ↦ inr (r.2 ∙ ap (side (v ∷ []) (edge x y)) e ∙ side_edge v x y vx vy xy)
             | inr e ↦ inl (r.2 ∙ ap (side (v ∷ []) (edge x y)) e ∙ swapped)
           ];
     }
       where
-        there : (z : ℕ) (s : List ℕ) → has (edge x y) z ≡ true → side (v ∷ []) (edge x y) z ≡ s → listed (rising face_cmp (sides (v ∷ []) (edge x y))) s ≡ true
-        there z s t e = listed-rising (sides (v ∷ []) (edge x y)) s ∙ listed-sides (v ∷ []) (edge x y) (edge x y) s ∙ some_has (λ w. pointwise nat_eq (side (v ∷ []) (edge x y) w) s) (edge x y) z t (ap (λ f. pointwise nat_eq f s) e ∙ same_set_itself s)
+        there : (z : ℕ) (s : List ℕ) → has (edge x y) z ≡ true → side (v ∷ []) (edge x y) z ≡ s → listed (rising face_cmp (join_boundary (v ∷ []) (edge x y))) s ≡ true
+        there z s t e = listed-rising (join_boundary (v ∷ []) (edge x y)) s ∙ listed-join_boundary (v ∷ []) (edge x y) (edge x y) s ∙ some_has (λ w. pointwise nat_eq (side (v ∷ []) (edge x y) w) s) (edge x y) z t (ap (λ f. pointwise nat_eq f s) e ∙ same_set_itself s)
 
     -- where the third edge is missing, the label can be taken out
     legal_here : is_held k.facets (edge x y) ≡ false → Legal k (v ∷ []) (edge x y)
@@ -113,9 +113,9 @@ module _ (k : Space) (h : IsCycle k) where
         sizes = omega (arith, edge_length x y xy, h.dim);
       };
       face = some_listed (λ f. holds f (v ∷ [])) k.facets (edge v x) first (both_true (edge_first v x) refl);
-      link = same_two (over k.facets (v ∷ [])) (rising face_cmp (sides (v ∷ []) (edge x y))) (edge v x) (edge v y)
+      link = same_two (over k.facets (v ∷ [])) (rising face_cmp (join_boundary (v ∷ []) (edge x y))) (edge v x) (edge v y)
           (IsStrictlySortedBy-filter face_cmp (λ f. holds f (v ∷ [])) k.facets h.complex.rising)
-          (sorted_rising nat_list_cmp_total (sides (v ∷ []) (edge x y))) at_v two_sides;
+          (sorted_rising nat_list_cmp_total (join_boundary (v ∷ []) (edge x y))) at_v two_sides;
       free = free;
     }
       where

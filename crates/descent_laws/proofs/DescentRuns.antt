@@ -1,6 +1,6 @@
 -- The descent by the best flips.
 use Rattle.std.proofs.Common.{◌≡◌, [], ◌∷◌, length, Some, sym, ◌∙◌, ap, refl, subst, arith}
-use Rattle.complex_core.specs.Spaces.{Space}
+use Rattle.complex_core.specs.Complexes.{ComplexView}
 use Rattle.flip_rules.specs.Flips.{flipped}
 use Rattle.flip_rules.specs.declared.flip.Flip.{Flip}
 use Rattle.flip_rules.proofs.Replays.{replay_legal}
@@ -20,7 +20,7 @@ descent_is_one k m n (f ∷ fs) (g ∷ gs) p q =
     (λ i. e i ∷ r.0 i, r.1)
 
 pub descent_descends : DescentDescends
-descent_descends k m [] d = let P : Space → Type 0 = λ l. IsMinimal l in record {
+descent_descends k m [] d = let P : ComplexView → Type 0 = λ l. IsMinimal l in record {
   replays = ap Some (sym d.0);
   faces = tt;
   minimal = subst P (sym d.0) d.1;

@@ -5,10 +5,10 @@ use Rattle.std.specs.Ordering.{nat_cmp}
 use Rattle.std.specs.Cmp.Lexicographic.{pointwise, nat_list_cmp_total}
 use Rattle.complex_core.specs.Labels.{has, holds, without, face_cmp}
 use Rattle.complex_core.specs.Rising.{rising}
-use Rattle.complex_core.specs.Spaces.{over, beside}
+use Rattle.complex_core.specs.Complexes.{over, beside}
 use Rattle.complex_core.proofs.Sets.{above_head, above_tail, among, among-rising, length-put_new}
 use Rattle.complex_core.proofs.Laws.{has-union, or_left, or_right, listed, listed-among, same_sets_is, both_false, above_not, nat_eq_same}
-use Rattle.flip_rules.specs.Flips.{sides, Legal, flipped}
+use Rattle.flip_rules.specs.Flips.{join_boundary, Legal, flipped}
 use Rattle.flip_rules.proofs.Links.{side}
 use Rattle.flip_rules.proofs.Legal.{legal}
 use Rattle.descent_laws.specs.Laws.{FlipFalls}
@@ -54,5 +54,5 @@ pub flip_falls : FlipFalls
 flip_falls k f r =
     let l : Legal k f.a f.b = legal k f.a f.b r.legal in
     let out : length (over k.facets f.a) ≡ length f.b = ap length l.link ∙ many_sides f.a f.b l.shape.apart f.b (above_tail nat_cmp 0 f.b r.faces.second.rising) (λ x t. t) in
-    let most : length (flipped k f.a f.b).facets ≤ length (beside k.facets f.a ++ sides f.b f.a) = rising_length (beside k.facets f.a ++ sides f.b f.a) in
-    omega (arith, parted k.facets f.a, out, most, length-append (beside k.facets f.a) (sides f.b f.a), length_sides f.b f.a f.a, l.shape.sizes, r.high)
+    let most : length (flipped k f.a f.b).facets ≤ length (beside k.facets f.a ++ join_boundary f.b f.a) = rising_length (beside k.facets f.a ++ join_boundary f.b f.a) in
+    omega (arith, parted k.facets f.a, out, most, length-append (beside k.facets f.a) (join_boundary f.b f.a), length_sides f.b f.a f.a, l.shape.sizes, r.high)

@@ -4,13 +4,13 @@ use Rattle.std.specs.List.Sorted.{IsStrictlySortedBy}
 use Rattle.std.specs.Ordering.{nat_cmp}
 use Rattle.std.specs.Cmp.Lexicographic.{pointwise}
 use Rattle.complex_core.specs.Labels.{has, without, IsFace}
-use Rattle.complex_core.specs.Spaces.{Space, over}
+use Rattle.complex_core.specs.Complexes.{ComplexView, over}
 use Rattle.complex_core.proofs.Sets.{above_head, above_tail}
 use Rattle.complex_core.proofs.Faces.{less_cmp}
 use Rattle.complex_core.proofs.Laws.{both_ways, has-union, or_left, or_right, listed, listed-rising, same_labels, some_has, same_set_itself, nat_eq_is, nat_eq_same}
-use Rattle.flip_rules.specs.Flips.{sides, Legal}
+use Rattle.flip_rules.specs.Flips.{join_boundary, Legal}
 use Rattle.flip_rules.specs.declared.flip.Flip.{Flip}
-use Rattle.flip_rules.proofs.Links.{side, side_of, listed-sides}
+use Rattle.flip_rules.proofs.Links.{side, side_of, listed-join_boundary}
 use Rattle.flip_rules.proofs.Legal.{legal}
 use Rattle.descent_laws.specs.Descents.{IsReducing}
 use Rattle.descent_laws.specs.Laws.{FirstDetermines, BestIsOne}
@@ -33,18 +33,18 @@ other_label (x ∷ y ∷ rest) z s n =
     ]
 
 -- the sides that a legal flip takes out are the facets over A
-pub side_there : (k : Space) (a b : List ℕ) (y : ℕ) → Legal k a b → has b y ≡ true → listed (over k.facets a) (side a b y) ≡ true
-side_there k a b y l t = ap (λ fs. listed fs (side a b y)) l.link ∙ listed-rising (sides a b) (side a b y) ∙ listed-sides a b b (side a b y) ∙ some_has (λ x. pointwise nat_eq (side a b x) (side a b y)) b y t (same_set_itself (side a b y))
+pub side_there : (k : ComplexView) (a b : List ℕ) (y : ℕ) → Legal k a b → has b y ≡ true → listed (over k.facets a) (side a b y) ≡ true
+side_there k a b y l t = ap (λ fs. listed fs (side a b y)) l.link ∙ listed-rising (join_boundary a b) (side a b y) ∙ listed-join_boundary a b b (side a b y) ∙ some_has (λ x. pointwise nat_eq (side a b x) (side a b y)) b y t (same_set_itself (side a b y))
 
-pub side_back : (k : Space) (a b f : List ℕ) → Legal k a b → listed (over k.facets a) f ≡ true → (x : ℕ) × (has b x ≡ true) × (f ≡ side a b x)
-side_back k a b f l t = side_of a b f (sym (listed-rising (sides a b) f) ∙ ap (λ fs. listed fs f) (sym l.link) ∙ t)
+pub side_back : (k : ComplexView) (a b f : List ℕ) → Legal k a b → listed (over k.facets a) f ≡ true → (x : ℕ) × (has b x ≡ true) × (f ≡ side a b x)
+side_back k a b f l t = side_of a b f (sym (listed-rising (join_boundary a b) f) ∙ ap (λ fs. listed fs f) (sym l.link) ∙ t)
 
 second_part : (p q : Bool) → (p || q) ≡ true → p ≡ false → q ≡ true
 second_part true q h f = clash true refl f
 second_part false q h f = h
 
 -- the labels of one B are labels of the other
-shared : (k : Space) (a b c : List ℕ) (z : ℕ) → Legal k a b → Legal k a c → IsFace b → 2 ≤ length b → has b z ≡ true → has c z ≡ true
+shared : (k : ComplexView) (a b c : List ℕ) (z : ℕ) → Legal k a b → Legal k a c → IsFace b → 2 ≤ length b → has b z ≡ true → has c z ≡ true
 shared k a b c z l m fb n t =
     let y : (y : ℕ) × (has b y ≡ true) × (z ≢ y) = other_label b z (above_tail nat_cmp 0 b fb.rising) n in
     let x : (x : ℕ) × (has c x ≡ true) × (side a b y.0 ≡ side a c x) = side_back k a c (side a b y.0) m (side_there k a b y.0 l y.1) in
@@ -52,7 +52,7 @@ shared k a b c z l m fb n t =
     let not_a : has a z ≡ false = elim (two (has a z)) [ inl e ↦ clash (has b z) t (l.shape.apart z e) | inr e ↦ e ] in
     without_has c x.0 z (second_part (has a z) (has (without c x.0) z) (sym (has-union a (without c x.0) z) ∙ ap (λ g. has g z) (sym x.2) ∙ in_b) not_a)
 
-pub two_at_least : (k : Space) (f : Flip) → IsReducing k f → 2 ≤ length f.b
+pub two_at_least : (k : ComplexView) (f : Flip) → IsReducing k f → 2 ≤ length f.b
 two_at_least k f r = omega (arith, r.high)
 
 pub first_determines : FirstDetermines

@@ -9,7 +9,7 @@ use Rattle.std.proofs.lemmas.Bool.Decides.{nat_tests}
 use Rattle.std.proofs.lemmas.Int.{ints}
 use lib.IntN.{ℤ, pos, negsuc, ◌+ℤ◌}
 use Rattle.complex_core.specs.Labels.{holds}
-use Rattle.complex_core.specs.Spaces.{is_held}
+use Rattle.complex_core.specs.Complexes.{is_held}
 use Rattle.complex_core.proofs.Laws.{or_left, or_right, listed, same_set_itself, listed-filter, nat_eq_is}
 use Rattle.face_counts.specs.Faces.{parts, is_some, faces, number}
 use Rattle.face_counts.specs.Eulers.{odd, total, sign, power, signed, alternating}

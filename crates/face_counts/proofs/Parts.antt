@@ -10,7 +10,7 @@ use Rattle.std.proofs.lemmas.Bool.Decides.{nat_tests}
 use Rattle.std.proofs.lemmas.List.Kept.{IsStrictlySortedBy-filter}
 use Rattle.complex_core.specs.Labels.{holds, face_cmp}
 use Rattle.complex_core.specs.Rising.{rising}
-use Rattle.complex_core.specs.Spaces.{IsFacet, IsComplex, Space, is_held}
+use Rattle.complex_core.specs.Complexes.{IsFacet, IsComplex, ComplexView, is_held}
 use Rattle.complex_core.specs.Subsets.{subsets_of}
 use Rattle.complex_core.proofs.Sets.{above_tail, sorted_rising}
 use Rattle.complex_core.proofs.Laws.{both_ways, or_left, or_right, nat_eq_same, listed, same_sets_is, same_set_itself, listed-append, listed-filter, listed-rising, same_lists, some_listed}
@@ -72,7 +72,7 @@ face_is fs s h t = part_is fs s h (first_so (listed (parts fs) s) (is_some s) (s
 pub faces_rise : (fs : List (List ℕ)) → IsStrictlySortedBy face_cmp (faces fs)
 faces_rise fs = IsStrictlySortedBy-filter face_cmp is_some (parts fs) (sorted_rising nat_list_cmp_total (flat_map subsets fs))
 
-pub sets_of : (k : Space) → IsComplex k → Sets k.facets
+pub sets_of : (k : ComplexView) → IsComplex k → Sets k.facets
 sets_of k h f t = above_tail nat_cmp 0 f (pure_at k.dim k.facets f h.pure t).face.rising
 
 not_none : (s : List ℕ) → not (nat_eq (length s) 0) ≡ is_some s

@@ -4,7 +4,7 @@ use Rattle.std.specs.List.{flat_map}
 use Rattle.std.specs.List.Sorted.{IsStrictlySortedBy}
 use Rattle.complex_core.specs.Labels.{IsFace, face_cmp}
 use Rattle.complex_core.specs.Rising.{rising}
-use Rattle.complex_core.specs.Spaces.{Space, is_face}
+use Rattle.complex_core.specs.Complexes.{ComplexView, is_face}
 use Rattle.complex_core.specs.Subsets.{lists}
 
 -- all subsets of a set of labels
@@ -34,6 +34,6 @@ numbers sets zero = []
 numbers sets (suc n) = numbers sets n ++ number sets n ∷ []
 
 -- the sets are the faces of a complex, rising, each once
-pub record AreFaces (k : Space) (sets : List (List ℕ)) : Type 0 where
+pub record AreFaces (k : ComplexView) (sets : List (List ℕ)) : Type 0 where
   pub rise : IsStrictlySortedBy face_cmp sets
   pub each : (set : List ℕ) → IsTrue (lists sets set) ↔ (IsFace set × IsTrue (is_face k.facets set))

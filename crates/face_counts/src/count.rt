@@ -3,7 +3,7 @@ ghost use Rattle.std.specs.Prelude.{◌≡◌, ◌+◌, ◌<◌, ◌^◌, ℕ, L
 ghost use Rattle.std.specs.List.{flat_map};
 ghost use Rattle.complex_core.specs.Labels.{face_cmp};
 ghost use Rattle.complex_core.specs.Rising.{rising};
-ghost use Rattle.complex_core.specs.Spaces.{IsComplex};
+ghost use Rattle.complex_core.specs.Complexes.{IsComplex};
 ghost use Rattle.complex_core.specs.Subsets.{subsets_of};
 ghost use Rattle.face_counts.specs.Faces.{faces, numbers};
 ghost use Rattle.face_counts.specs.Eulers.{euler, odd, signed, alternating};

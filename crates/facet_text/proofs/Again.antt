@@ -17,8 +17,8 @@ use Rattle.std.specs.Ordering.{nat_cmp}
 use Rattle.std.specs.Cmp.Lexicographic.{nat_list_cmp_total}
 use Rattle.complex_core.specs.Labels.{face_cmp, with}
 use Rattle.complex_core.specs.Rising.{rising}
-use Rattle.complex_core.specs.Spaces as spaces
-use Rattle.complex_core.specs.Spaces.{IsComplex, Space}
+use Rattle.complex_core.specs.Complexes as spaces
+use Rattle.complex_core.specs.Complexes.{IsComplex, ComplexView}
 use Rattle.complex_core.specs.ComplexFaults.{first_size}
 use Rattle.complex_core.proofs.Faces.{less_cmp, put_after}
 use Rattle.complex_core.proofs.Sets.{above_head, above_tail, sorted_rising}
@@ -71,9 +71,9 @@ unfolding kind_at more_at
 number at [] c bs some all stop = absurd (omega arith)
 number at (d ∷ ds) c bs some all stop =
     let is = digit_only d all.0 in
-    let place : at + 1 + length ds ≡ at + suc (length ds) = omega arith in
+    let offset : at + 1 + length ds ≡ at + suc (length ds) = omega arith in
     one_token at d (ds ++ c ∷ bs) is.2
-    ∙ rw (is.1, is.0, digits_len ds c bs all.1 stop, take_at ds (c ∷ bs) (length ds) refl, drop_at ds (c ∷ bs) (length ds) refl, place) refl
+    ∙ rw (is.1, is.0, digits_len ds c bs all.1 stop, take_at ds (c ∷ bs) (length ds) refl, drop_at ds (c ∷ bs) (length ds) refl, offset) refl
 
 decimal_token : (at n c : ℕ) (bs : List ℕ) → n ≤ 60000 → has Digit c ≡ false
     → tokens_past 0 at (decimal n ++ c ∷ bs) ≡ (kind.Label, decimal n, at) ∷ tokens_past 0 (at + length (decimal n)) (c ∷ bs)
@@ -145,11 +145,11 @@ labels_again : (labels done : List ℕ) (end start at low p : ℕ) (fs : Facets)
     → label_from end start done fs (tokens_past 0 at (join_with_byte 44 (map decimal labels) ++ 93 ∷ rest))
     ≡ facet_then start (done ++ labels) fs (after_facet end (fs ++ (done ++ labels) ∷ []) (tokens_past 0 p rest))
 unfolding after_label
-labels_again [] done end start at low p fs rest some rising all room place = absurd (omega arith)
-labels_again (n ∷ []) done end start at low p fs rest some rising all room place =
+labels_again [] done end start at low p fs rest some rising all room offset = absurd (omega arith)
+labels_again (n ∷ []) done end start at low p fs rest some rising all room offset =
     one_label end start at n low 93 done fs rest rising.0 rising.1 all (omega arith) close_stops
-    ∙ rw (closes (at + length (decimal n)) rest, ← place) refl
-labels_again (n ∷ m ∷ ns) done end start at low p fs rest some rising all room place =
+    ∙ rw (closes (at + length (decimal n)) rest, ← offset) refl
+labels_again (n ∷ m ∷ ns) done end start at low p fs rest some rising all room offset =
     let tail = join_with_byte 44 (map decimal (m ∷ ns)) in
     let first : label_from end start done fs (tokens_past 0 at (decimal n ++ 44 ∷ (tail ++ 93 ∷ rest)))
     ≡ label_from end start (done ++ n ∷ []) fs (tokens_past 0 (at + length (decimal n) + 1) (tail ++ 93 ∷ rest)) =
@@ -196,11 +196,11 @@ facets_again : (gs done : Facets) (end at size p : ℕ) (rest : List ℕ) → 0 
     → p ≡ at + length (join_with_byte 44 (map facet_text gs)) + 1
     → facet_from end done (tokens_past 0 at (join_with_byte 44 (map facet_text gs) ++ 93 ∷ rest)) ≡ after_list p (done ++ gs) (tokens_past 0 p rest)
 unfolding after_facet
-facets_again [] done end at size p rest some two seven all are place = absurd (omega arith)
-facets_again (g ∷ []) done end at size p rest some two seven all are place =
+facets_again [] done end at size p rest some two seven all are offset = absurd (omega arith)
+facets_again (g ∷ []) done end at size p rest some two seven all are offset =
     one_facet end at size done g (93 ∷ rest) two seven all are.0
-    ∙ rw (closes (at + length (facet_text g)) rest, ← place) refl
-facets_again (g ∷ h ∷ gs) done end at size p rest some two seven all are place =
+    ∙ rw (closes (at + length (facet_text g)) rest, ← offset) refl
+facets_again (g ∷ h ∷ gs) done end at size p rest some two seven all are offset =
     let tail = join_with_byte 44 (map facet_text (h ∷ gs)) in
     let same : (facet_text g ++ 44 ∷ tail) ++ 93 ∷ rest ≡ facet_text g ++ 44 ∷ (tail ++ 93 ∷ rest) = append_assoc (facet_text g) (44 ∷ tail) (93 ∷ rest) in
     let first : facet_from end done (tokens_past 0 at (facet_text g ++ 44 ∷ (tail ++ 93 ∷ rest)))
@@ -228,7 +228,7 @@ first_is dim [] some pure = absurd (omega arith)
 first_is dim (f ∷ fs) some pure = omega (arith, pure.0.size)
 
 -- a complex is that of its facets
-pub own_complex : (k : Space) → IsComplex k → complex_of k.facets ≡ k
+pub own_complex : (k : ComplexView) → IsComplex k → complex_of k.facets ≡ k
 own_complex k is =
     let dim : first_size k.facets - 1 ≡ k.dim = first_is k.dim k.facets is.some is.pure in
     let facets : rising face_cmp k.facets ≡ k.facets =
@@ -236,13 +236,13 @@ own_complex k is =
     λ i. record { dim = dim i; facets = facets i }
 
 -- within the limits the complex stands
-limits_pass : (place : ℕ) (k : Space) (ts : List Spot) → KeepsLimits k → after_list place k.facets ts ≡ Ok (k, list_end place ts)
+limits_pass : (offset : ℕ) (k : ComplexView) (ts : List Spot) → KeepsLimits k → after_list offset k.facets ts ≡ Ok (k, list_end offset ts)
 unfolding after_list
-limits_pass place k ts keeps =
+limits_pass offset k ts keeps =
     let own = own_complex k keeps.complex in
     let facets : nat_lt 20000 (length k.facets) ≡ false = let few = keeps.few_facets in grind arith in
     let labels : nat_lt 4096 (length (labels_of k)) ≡ false = let few = keeps.few_labels in grind arith in
-    ap (λ (j : Space). limits_then j (Ok (j, list_end place ts))) own ∙ rw (facets, labels) refl
+    ap (λ (j : ComplexView). limits_then j (Ok (j, list_end offset ts))) own ∙ rw (facets, labels) refl
 
 semis : (at : ℕ) (bs : List ℕ) → tokens_past 0 at (59 ∷ bs) ≡ (kind.Semicolon, 59 ∷ [], at) ∷ tokens_past 0 (at + 1) bs
 unfolding has
@@ -264,35 +264,35 @@ is_semicolon : (b : ℕ) (bs : List ℕ) → kind_at b bs ≡ kind.Semicolon →
 unfolding kind_at
 is_semicolon b bs e = only_semicolon _ _ _ _ _ _ _ _ e
 
-other_end : (place : ℕ) (k : TokenKind) (text : List ℕ) (at : ℕ) (ts : List Spot) → (k ≡ kind.Semicolon → ⊥) → list_end place ((k, text, at) ∷ ts) ≡ place
-other_end place kind.Semicolon text at ts other = absurd (other refl)
-other_end place _ text at ts other = refl
+other_end : (offset : ℕ) (k : TokenKind) (text : List ℕ) (at : ℕ) (ts : List Spot) → (k ≡ kind.Semicolon → ⊥) → list_end offset ((k, text, at) ∷ ts) ≡ offset
+other_end offset kind.Semicolon text at ts other = absurd (other refl)
+other_end offset _ text at ts other = refl
 
 -- where the first byte is no blank
-first_sign : (place at n : ℕ) (bs : List ℕ) → at ≡ place + n → (0 < length bs → has Blank (get_or bs 0 0) ≡ false)
-    → list_end place (tokens_past 0 at bs) ≡ place + cond (starts_with nat_eq bs (59 ∷ [])) (n + 1) 0
+first_sign : (offset at n : ℕ) (bs : List ℕ) → at ≡ offset + n → (0 < length bs → has Blank (get_or bs 0 0) ≡ false)
+    → list_end offset (tokens_past 0 at bs) ≡ offset + cond (starts_with nat_eq bs (59 ∷ [])) (n + 1) 0
 unfolding tokens_past
-first_sign place at n [] e solid = sym (add-zero place)
-first_sign place at n (b ∷ bs) e solid = elim (cases_Bool (nat_eq 59 b)) [
+first_sign offset at n [] e solid = sym (add-zero offset)
+first_sign offset at n (b ∷ bs) e solid = elim (cases_Bool (nat_eq 59 b)) [
   | inl same ↦
       let is : b ≡ 59 = sym (nat_eq_is 59 b same) in
-      let there : at + 1 ≡ place + (n + 1) = omega arith in
-      rw same (ap (λ (c : ℕ). list_end place (tokens_past 0 at (c ∷ bs))) is ∙ ap (list_end place) (semis at bs) ∙ there)
+      let there : at + 1 ≡ offset + (n + 1) = omega arith in
+      rw same (ap (λ (c : ℕ). list_end offset (tokens_past 0 at (c ∷ bs))) is ∙ ap (list_end offset) (semis at bs) ∙ there)
   | inr other ↦
       let not_it = λ (k : kind_at b bs ≡ kind.Semicolon). true≢false (sym (is_semicolon b bs k) ∙ nat_eq_swap b 59 ∙ other) in
-      rw other (ap (list_end place) (one_token at b bs (solid (omega arith))) ∙ other_end place (kind_at b bs) _ at _ not_it ∙ sym (add-zero place))
+      rw other (ap (list_end offset) (one_token at b bs (solid (omega arith))) ∙ other_end offset (kind_at b bs) _ at _ not_it ∙ sym (add-zero offset))
 ]
 
 -- a `;` behind blanks is taken
-pub semicolon : (place : ℕ) (bs : List ℕ) → list_end place (tokens_past 0 place bs) ≡ place + to_semicolon bs
-semicolon place bs =
+pub semicolon : (offset : ℕ) (bs : List ℕ) → list_end offset (tokens_past 0 offset bs) ≡ offset + to_semicolon bs
+semicolon offset bs =
     let n = prefix_len (has Blank) bs in
     let solid : 0 < length (drop n bs) → has Blank (get_or (drop n bs) 0 0) ≡ false =
     λ some. ap (has Blank) (get_or-drop n bs 0 0 ∙ ap (λ (k : ℕ). get_or bs k 0) (add-zero n)) ∙ prefix_len_stops (has Blank) bs 0 (omega (arith, length-drop n bs)) in
-    ap (list_end place) (past_blanks place bs) ∙ first_sign place (place + n) n (drop n bs) refl solid
+    ap (list_end offset) (past_blanks offset bs) ∙ first_sign offset (offset + n) n (drop n bs) refl solid
 
 -- a written complex, between any bytes
-pub read_again : (before after : List ℕ) (k : Space) → KeepsLimits k
+pub read_again : (before after : List ℕ) (k : ComplexView) → KeepsLimits k
     → complex_at (before ++ text_of k.facets ++ after) (length before) ≡ Ok (k, length before + length (text_of k.facets) + to_semicolon after)
 unfolding complex_from list_from text_of
 read_again before after k keeps =
@@ -307,8 +307,8 @@ read_again before after k keeps =
     let len : at + length (text_of fs) ≡ at + 1 + length inner + 1 = omega (arith, length-append inner (93 ∷ [])) in
     let two : 2 ≤ k.dim + 1 = omega (arith, keeps.dim) in
     let seven : k.dim + 1 ≤ 7 = omega (arith, is.low) in
-    let place = at + length (text_of fs) in
+    let offset = at + length (text_of fs) in
     ap (λ (bs : List ℕ). complex_from end (tokens_past 0 at bs)) cut ∙ read
-    ∙ facets_again fs [] end (at + 1) (k.dim + 1) place after is.some two seven tt (each_facet k.dim fs is.pure keeps.small) len
-    ∙ limits_pass place k (tokens_past 0 place after) keeps
-    ∙ ap (λ (p : ℕ). Ok (k, p)) (semicolon place after)
+    ∙ facets_again fs [] end (at + 1) (k.dim + 1) offset after is.some two seven tt (each_facet k.dim fs is.pure keeps.small) len
+    ∙ limits_pass offset k (tokens_past 0 offset after) keeps
+    ∙ ap (λ (p : ℕ). Ok (k, p)) (semicolon offset after)

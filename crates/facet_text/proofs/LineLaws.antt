@@ -1,4 +1,4 @@
--- How the items go on from place to place.
+-- How the items go on from offset to offset.
 use Rattle.std.proofs.Common.{◌≡◌, ◌≤◌, ◌<◌, ◌+◌, ◌-◌, ℕ, zero, suc, Bool, true, false, not, List, [], ◌∷◌, ◌++◌, length, take, drop, get_or, refl, sym, ap, subst, ◌∙◌, arith, inl, inr, add-zero, add-one, length-drop, length-append, append_assoc, drop-cons, filter}
 use Rattle.std.specs.Prelude.{slice_range}
 use Rattle.std.specs.List.{AllPass, list_all, prefix_len, take_while}
@@ -17,8 +17,8 @@ unfolding items_past
 items_past-drop zero at bs h = rw add-zero refl
 items_past-drop (suc n) at [] h = absurd (omega arith)
 items_past-drop (suc n) at (b ∷ bs) h =
-    let place : at + 1 + n ≡ at + suc n = omega arith in
-    items_past-drop n (at + 1) bs (omega arith) ∙ ap (λ (k : ℕ). items_past 0 k (drop n bs)) place
+    let offset : at + 1 + n ≡ at + suc n = omega arith in
+    items_past-drop n (at + 1) bs (omega arith) ∙ ap (λ (k : ℕ). items_past 0 k (drop n bs)) offset
 
 pub feed_here : (at b : ℕ) (bs : List ℕ) → is_feed b ≡ true → items_past 0 at (b ∷ bs) ≡ line_end at ∷ items_past 0 (at + 1) bs
 unfolding items_past
@@ -130,8 +130,8 @@ pub ended : (bs : List ℕ) (from n end : ℕ) (rest : List Item) → 0 < n → 
     → (more : List Item) × (items bs from ≡ line_end end ∷ more)
 ended bs from n end rest some h e =
     let first = first_of h.0 rest h.1 (omega (arith, h.2)) in
-    let place = first_end from (drop from bs) first.0 first.1 (h.3 ∙ first.2) in
-    (first.1, h.3 ∙ first.2 ∙ ap (λ (p : ℕ). line_end p ∷ first.1) (place ∙ sym e))
+    let offset = first_end from (drop from bs) first.0 first.1 (h.3 ∙ first.2) in
+    (first.1, h.3 ∙ first.2 ∙ ap (λ (p : ℕ). line_end p ∷ first.1) (offset ∙ sym e))
 
 pub all_ended : (bs : List ℕ) (from end : ℕ) → AreEnds (items bs from) → end ≡ from + prefix_len (λ b. not (is_feed b)) (drop from bs)
     → (more : List Item) × (items bs from ≡ line_end end ∷ more)
@@ -144,8 +144,8 @@ all_ended bs from end are e =
 slice_more : (bs : List ℕ) (i j : ℕ) → i ≤ j → j < length bs → slice_range bs i (j + 1) ≡ slice_range bs i j ++ get_or bs j 0 ∷ []
 slice_more bs i j le lt =
     let width : j + 1 - i ≡ j - i + 1 = omega arith in
-    let place : i + (j - i) ≡ j = omega arith in
-    let last : get_or (drop i bs) (j - i) 0 ≡ get_or bs j 0 = get_or-drop i bs (j - i) 0 ∙ ap (λ (n : ℕ). get_or bs n 0) place in
+    let offset : i + (j - i) ≡ j = omega arith in
+    let last : get_or (drop i bs) (j - i) 0 ≡ get_or bs j 0 = get_or-drop i bs (j - i) 0 ∙ ap (λ (n : ℕ). get_or bs n 0) offset in
     ap (λ (n : ℕ). take n (drop i bs)) width ∙ take_more (drop i bs) (j - i) 0 (omega (arith, length-drop i bs)) ∙ ap (λ (b : ℕ). slice_range bs i j ++ b ∷ []) last
 
 none_there : (bs : List ℕ) (i : ℕ) → slice_range bs i i ≡ []
@@ -185,7 +185,7 @@ all_blanks bs i le all =
 
 pub a_word_stays : (bs : List ℕ) (i j : ℕ) → i ≤ j → j < length bs → is_blank (get_or bs j 0) ≡ false → AllPass is_blank (drop i bs) → true ≡ false
 a_word_stays bs i j le lt solid all =
-    let place : i + (j - i) ≡ j = omega arith in
+    let offset : i + (j - i) ≡ j = omega arith in
     let blank : is_blank (get_or (drop i bs) (j - i) 0) ≡ true = all (j - i) 0 (omega (arith, length-drop i bs)) in
-    let same : get_or (drop i bs) (j - i) 0 ≡ get_or bs j 0 = get_or-drop i bs (j - i) 0 ∙ ap (λ (n : ℕ). get_or bs n 0) place in
+    let same : get_or (drop i bs) (j - i) 0 ≡ get_or bs j 0 = get_or-drop i bs (j - i) 0 ∙ ap (λ (n : ℕ). get_or bs n 0) offset in
     sym blank ∙ ap is_blank same ∙ solid

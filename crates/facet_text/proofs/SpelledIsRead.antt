@@ -6,7 +6,7 @@ use Rattle.std.specs.Ordering.{nat_cmp}
 use Rattle.std.proofs.lemmas.List.{append-nil, take_at, drop_at}
 use Rattle.complex_core.specs.Labels.{has as has_label, with, union}
 use Rattle.complex_core.specs.Rising.{rising}
-use Rattle.complex_core.specs.Spaces.{Space}
+use Rattle.complex_core.specs.Complexes.{ComplexView}
 use Rattle.facet_text.specs.declared.token.Class.{Class}
 use Rattle.facet_text.specs.declared.token.Class.TheVariants.{Blank, Digit, Letter, NameByte}
 use Rattle.facet_text.specs.declared.token.TokenKind.{TokenKind}
@@ -24,8 +24,8 @@ past_gap : (gap bs : List ℕ) (at : ℕ) → AreBlanks gap → tokens_past 0 at
 unfolding tokens_past
 past_gap [] bs at blank = rw add-zero refl
 past_gap (b ∷ gap) bs at blank =
-    let place : at + 1 + length gap ≡ at + suc (length gap) = omega arith in
-    rw blank.0 (past_gap gap bs (at + 1) blank.1 ∙ ap (λ (n : ℕ). tokens_past 0 n bs) place)
+    let offset : at + 1 + length gap ≡ at + suc (length gap) = omega arith in
+    rw blank.0 (past_gap gap bs (at + 1) blank.1 ∙ ap (λ (n : ℕ). tokens_past 0 n bs) offset)
 
 -- the bytes begin with none of the class
 abbrev Stops : Class → List ℕ → Type 0
@@ -64,17 +64,17 @@ number_token : (at : ℕ) (w more : List ℕ) → IsNumber w → Stops Digit mor
 unfolding kind_at more_at
 number_token at [] more is stop = absurd is
 number_token at (d ∷ ds) more is stop =
-    let place : at + 1 + length ds ≡ at + suc (length ds) = omega arith in
+    let offset : at + 1 + length ds ≡ at + suc (length ds) = omega arith in
     one_token at d (ds ++ more) (digit_is d is.0).1
-    ∙ rw ((digit_is d is.0).0, is.0, run_len (has Digit) ds more is.1 stop, take_at ds more (length ds) refl, drop_at ds more (length ds) refl, place) refl
+    ∙ rw ((digit_is d is.0).0, is.0, run_len (has Digit) ds more is.1 stop, take_at ds more (length ds) refl, drop_at ds more (length ds) refl, offset) refl
 
 name_token : (at : ℕ) (w more : List ℕ) → IsName w → Stops NameByte more → tokens_past 0 at (w ++ more) ≡ (kind.Name, w, at) ∷ tokens_past 0 (at + length w) more
 unfolding kind_at more_at
 name_token at [] more is stop = absurd is
 name_token at (b ∷ bs) more is stop =
-    let place : at + 1 + length bs ≡ at + suc (length bs) = omega arith in
+    let offset : at + 1 + length bs ≡ at + suc (length bs) = omega arith in
     one_token at b (bs ++ more) (no_digit b is.0)
-    ∙ rw (is.0, run_len (has NameByte) bs more is.1 stop, take_at bs more (length bs) refl, drop_at bs more (length bs) refl, place) refl
+    ∙ rw (is.0, run_len (has NameByte) bs more is.1 stop, take_at bs more (length bs) refl, drop_at bs more (length bs) refl, offset) refl
 
 equals : (at : ℕ) (bs : List ℕ) → tokens_past 0 at (61 ∷ bs) ≡ (kind.Assign, 61 ∷ [], at) ∷ tokens_past 0 (at + 1) bs
 unfolding has
@@ -87,12 +87,12 @@ blank_letter_digit = (refl, refl, refl)
 long_equals : (at : ℕ) (bs : List ℕ) → tokens_past 0 at (58 ∷ 61 ∷ bs) ≡ (kind.Assign, 58 ∷ 61 ∷ [], at) ∷ tokens_past 0 (at + 2) bs
 unfolding kind_at more_at
 long_equals at bs =
-    let place : at + 1 + 1 ≡ at + 2 = omega arith in
-    one_token at 58 (61 ∷ bs) blank_letter_digit.0 ∙ rw (blank_letter_digit.1, blank_letter_digit.2, place) refl
+    let offset : at + 1 + 1 ≡ at + 2 = omega arith in
+    one_token at 58 (61 ∷ bs) blank_letter_digit.0 ∙ rw (blank_letter_digit.1, blank_letter_digit.2, offset) refl
 
 -- the next word is read as a token of a kind, and the other words follow
 abbrev Step : Word → List Word → List ℕ → List Spot → TokenKind → Type 0
-Step w ws rest ts k = (place : ℕ) × (next : ℕ) × (more : List ℕ) × Spread ws more rest × (ts ≡ (k, w, place) ∷ tokens_past 0 next more)
+Step w ws rest ts k = (offset : ℕ) × (next : ℕ) × (more : List ℕ) × Spread ws more rest × (ts ≡ (k, w, offset) ∷ tokens_past 0 next more)
 
 sign_step : (b : ℕ) (k : TokenKind) → ((at : ℕ) (bs : List ℕ) → tokens_past 0 at (b ∷ bs) ≡ (k, b ∷ [], at) ∷ tokens_past 0 (at + 1) bs)
     → (ws : List Word) (bs rest : List ℕ) (at : ℕ) → Spread ((b ∷ []) ∷ ws) bs rest → Step (b ∷ []) ws rest (tokens_past 0 at bs) k
@@ -157,7 +157,7 @@ label_goes start at n done next good new few =
 
 -- what a part of the text was read to, and what follows it
 abbrev Then : List Word → List ℕ → Reading → (List Spot → Reading) → Type 0
-Then after rest before next = (place : ℕ) × (more : List ℕ) × Spread after more rest × (before ≡ next (tokens_past 0 place more))
+Then after rest before next = (offset : ℕ) × (more : List ℕ) × Spread after more rest × (before ≡ next (tokens_past 0 offset more))
 
 one_number : (n : Word) (ns after : List Word) (done : List ℕ) (fs : Facets) (end start : ℕ) (bs rest : List ℕ) (at : ℕ)
     → IsNumber n → Fresh done (digits_value 10 n ∷ map (digits_value 10) ns) → Spread (n ∷ more_numbers ns after) bs rest
@@ -226,7 +226,7 @@ sized_push size (f ∷ fs) g all is = (all.0, sized_push size fs g all.1 is)
 
 facets_read : (gs : List (List Word)) (after : List Word) (fs : Facets) (size end : ℕ) (bs rest : List ℕ) (at : ℕ)
     → AllByRecursion (λ f. AllByRecursion IsNumber f) gs → AllByRecursion IsGood (values gs) → AreOf size gs → Sized size fs → Spread (more_facets gs after) bs rest
-    → (place : ℕ) × (ts : List Spot) × (after_facet end fs (tokens_past 0 at bs) ≡ after_list place (fs ++ spelled gs) ts)
+    → (offset : ℕ) × (ts : List Spot) × (after_facet end fs (tokens_past 0 at bs) ≡ after_list offset (fs ++ spelled gs) ts)
 unfolding after_facet
 facets_read [] after fs size end bs rest at are good pure sized s =
     let step = sign_step 93 kind.Close closes after bs rest at s in
@@ -244,7 +244,7 @@ facets_read (g ∷ gs) after fs size end bs rest at are good pure sized s =
 
 list_read : (fs : List (List Word)) (after : List Word) (end : ℕ) (bs rest : List ℕ) (at : ℕ)
     → AllByRecursion (λ f. AllByRecursion IsNumber f) fs → AreGood fs → Spread (list_words fs after) bs rest
-    → (place : ℕ) × (ts : List Spot) × (complex_from end (tokens_past 0 at bs) ≡ after_list place (spelled fs) ts) × (list_from end (tokens_past 0 at bs) ≡ after_list place (spelled fs) ts)
+    → (offset : ℕ) × (ts : List Spot) × (complex_from end (tokens_past 0 at bs) ≡ after_list offset (spelled fs) ts) × (list_from end (tokens_past 0 at bs) ≡ after_list offset (spelled fs) ts)
 unfolding list_from complex_from
 list_read [] after end bs rest at are good s = absurd (omega (arith, good.some))
 list_read (f ∷ fs) after end bs rest at are good s =
@@ -256,20 +256,20 @@ list_read (f ∷ fs) after end bs rest at are good s =
     (others.0, others.1, ap (complex_from end) step.4 ∙ one.3 ∙ others.2, ap (list_from end) step.4 ∙ one.3 ∙ others.2)
 
 -- within the limits the complex stands
-limits_go : (place : ℕ) (fs : List (List Word)) (ts : List Spot) → AreGood fs → after_list place (spelled fs) ts ≡ Ok (complex_of (spelled fs), list_end place ts)
+limits_go : (offset : ℕ) (fs : List (List Word)) (ts : List Spot) → AreGood fs → after_list offset (spelled fs) ts ≡ Ok (complex_of (spelled fs), list_end offset ts)
 unfolding after_list
-limits_go place fs ts good =
-    limits_stand (complex_of (spelled fs)) (list_end place ts) good.few_facets good.few_labels
+limits_go offset fs ts good =
+    limits_stand (complex_of (spelled fs)) (list_end offset ts) good.few_facets good.few_labels
   where
-    limits_stand : (k : Space) (place : ℕ) → length k.facets ≤ 20000 → length (labels_of k) ≤ 4096 → limits_then k (Ok (k, place)) ≡ Ok (k, place)
-    limits_stand k place few_facets few_labels =
+    limits_stand : (k : ComplexView) (offset : ℕ) → length k.facets ≤ 20000 → length (labels_of k) ≤ 4096 → limits_then k (Ok (k, offset)) ≡ Ok (k, offset)
+    limits_stand k offset few_facets few_labels =
         let facets : nat_lt 20000 (length k.facets) ≡ false = grind arith in
         let labels : nat_lt 4096 (length (labels_of k)) ≡ false = grind arith in
         rw (facets, labels) refl
 
 named_read : (naming : List Word) (fs : List (List Word)) (after : List Word) (end : ℕ) (bs rest : List ℕ) (at : ℕ)
     → IsNaming naming → AllByRecursion (λ f. AllByRecursion IsNumber f) fs → AreGood fs → Spread (naming ++ list_words fs after) bs rest
-    → (place : ℕ) × (ts : List Spot) × (complex_from end (tokens_past 0 at bs) ≡ after_list place (spelled fs) ts)
+    → (offset : ℕ) × (ts : List Spot) × (complex_from end (tokens_past 0 at bs) ≡ after_list offset (spelled fs) ts)
 unfolding complex_from assign_from
 named_read [] fs after end bs rest at is are good s =
     let list = list_read fs after end bs rest at are good s in
@@ -282,9 +282,9 @@ named_read (name ∷ assign ∷ []) fs after end bs rest at is are good s =
     let list = list_read fs after end second.2 rest second.1 are good second.3 in
     (list.0, list.1, ap (complex_from end) first.4 ∙ ap (assign_from end) second.4 ∙ list.3)
 
--- where the bytes from a place on spell a complex that keeps the limits, it is read
+-- where the bytes from an offset on spell a complex that keeps the limits, it is read
 pub spelled_read : (bytes : List ℕ) (from : ℕ) (fs : List (List Word)) (rest : List ℕ) → Spells (drop from bytes) fs rest → AreGood fs
-    → (place : ℕ) × (complex_at bytes from ≡ Ok (complex_of (spelled fs), place))
+    → (offset : ℕ) × (complex_at bytes from ≡ Ok (complex_of (spelled fs), offset))
 spelled_read bytes from fs rest spells good =
     let read = named_read spells.naming fs spells.ending (length bytes) (drop from bytes) rest from spells.is_naming spells.numbers good spells.spread in
     (list_end read.0 read.1, read.2 ∙ limits_go read.0 fs read.1 good)

@@ -1,4 +1,4 @@
--- How the tokens go on from place to place.
+-- How the tokens go on from offset to offset.
 use Rattle.std.proofs.Common.{◌≡◌, ◌≤◌, ◌<◌, ◌+◌, ◌-◌, ℕ, zero, suc, true, false, cond, List, [], ◌∷◌, length, take, drop, get_or, refl, sym, ap, ◌∙◌, arith, inl, inr, add-zero, add-one, length-drop, drop-cons}
 use Rattle.std.specs.List.{prefix_len, AllPass}
 use Rattle.std.proofs.lemmas.Bool.{cases_Bool}
@@ -15,8 +15,8 @@ unfolding tokens_past
 tokens_past-drop zero at bs h = rw add-zero refl
 tokens_past-drop (suc n) at [] h = absurd (omega arith)
 tokens_past-drop (suc n) at (b ∷ bs) h =
-    let place : at + 1 + n ≡ at + suc n = omega arith in
-    tokens_past-drop n (at + 1) bs (omega arith) ∙ ap (λ (k : ℕ). tokens_past 0 k (drop n bs)) place
+    let offset : at + 1 + n ≡ at + suc n = omega arith in
+    tokens_past-drop n (at + 1) bs (omega arith) ∙ ap (λ (k : ℕ). tokens_past 0 k (drop n bs)) offset
 
 long_more : (b : ℕ) (bs : List ℕ) → cond (is_long_assign b bs) 1 0 ≤ length bs
 long_more b [] = omega arith
@@ -33,9 +33,9 @@ past_blanks at [] = refl
 past_blanks at (b ∷ bs) =
     elim (cases_Bool (has Blank b)) [
       | inl blank ↦
-          let place : at + 1 + prefix_len (has Blank) bs ≡ at + suc (prefix_len (has Blank) bs) = omega arith in
+          let offset : at + 1 + prefix_len (has Blank) bs ≡ at + suc (prefix_len (has Blank) bs) = omega arith in
           let one : 1 + prefix_len (has Blank) bs ≡ suc (prefix_len (has Blank) bs) = omega arith in
-          rw (blank, past_blanks (at + 1) bs, place, one) refl
+          rw (blank, past_blanks (at + 1) bs, offset, one) refl
       | inr other ↦ rw (other, add-zero, other) refl
     ]
 

@@ -5,7 +5,7 @@ use Rattle.std.specs.Ordering.{nat_cmp}
 use Rattle.std.specs.Str.Parse.{digits_value}
 use Rattle.complex_core.specs.Labels.{face_cmp, has, with}
 use Rattle.complex_core.specs.Rising.{rising}
-use Rattle.complex_core.specs.Spaces.{Space}
+use Rattle.complex_core.specs.Complexes.{ComplexView}
 use Rattle.complex_core.specs.ComplexFaults.{first_size}
 use Rattle.facet_text.specs.declared.fault.TextFault.{TextFault}
 use Rattle.facet_text.specs.declared.fault.TextFault.TheVariants.{Syntax, Twice, Size, NotPure, TooManyFacets, TooManyLabels}
@@ -17,16 +17,16 @@ use Rattle.facet_text.specs.Tokens.{Spot, tokens}
 abbrev pub Facets : Type 0
 Facets = List (List ℕ)
 
--- a complex and the place after it, or the first fault
+-- a complex and the offset after it, or the first fault
 abbrev pub Reading : Type 0
-Reading = Result (Space × ℕ) TextFault
+Reading = Result (ComplexView × ℕ) TextFault
 
 -- the complex of these facets, each kept once
-abbrev pub complex_of : Facets → Space
+abbrev pub complex_of : Facets → ComplexView
 complex_of fs = record { dim = first_size fs - 1; facets = rising face_cmp fs }
 
 -- the labels of a complex, each once
-abbrev pub labels_of : Space → List ℕ
+abbrev pub labels_of : ComplexView → List ℕ
 labels_of k = rising nat_cmp (flat_map (λ f. f) k.facets)
 
 abbrev pub is_label : ℕ → Bool
@@ -55,7 +55,7 @@ facet_then start labels fs next =
     else next
 
 -- what the limits on a whole complex lead to
-abbrev pub limits_then : Space → Reading → Reading
+abbrev pub limits_then : ComplexView → Reading → Reading
 limits_then k next =
     if nat_lt 20000 (length k.facets) then Err TooManyFacets
     else if nat_lt 4096 (length (labels_of k)) then Err TooManyLabels
@@ -63,12 +63,12 @@ limits_then k next =
 
 -- a `;` that follows the list belongs to the complex
 abbrev pub list_end : ℕ → List Spot → ℕ
-list_end place ((Semicolon, text, at) ∷ ts) = at + length text
-list_end place ts = place
+list_end offset ((Semicolon, text, at) ∷ ts) = at + length text
+list_end offset ts = offset
 
--- after the list's `]`, at a place
+-- after the list's `]`, at an offset
 unfoldable pub after_list : ℕ → Facets → List Spot → Reading
-after_list place fs ts = limits_then (complex_of fs) (Ok (complex_of fs, list_end place ts))
+after_list offset fs ts = limits_then (complex_of fs) (Ok (complex_of fs, list_end offset ts))
 
 unfoldable mutual
   -- a facet is wanted
@@ -116,7 +116,7 @@ unfoldable pub complex_from : ℕ → List Spot → Reading
 complex_from end ((Name, _, at) ∷ ts) = assign_from end ts
 complex_from end ts = list_from end ts
 
--- The complex that the input spells from a place on, and the place after it, or the first fault.
+-- The complex that the input spells from an offset on, and the offset after it, or the first fault.
 abbrev pub complex_at : List ℕ → ℕ → Reading
 complex_at bytes from = complex_from (length bytes) (tokens bytes from)
 

@@ -10,12 +10,12 @@ is_feed b = b == 10
 abbrev pub is_solid : ℕ → Bool
 is_solid b = not (is_blank b)
 
--- A word, with its bytes and the place of the first, or a line's end: a line feed, or the end of the input.
+-- A word, with its bytes and the offset of the first, or a line's end: a line feed, or the end of the input.
 pub data Item : Type 0 where
   word : List ℕ → ℕ → Item
   line_end : ℕ → Item
 
--- The items of the bytes, of which the first stands at a place, after as many bytes as are passed over.
+-- The items of the bytes, of which the first stands at an offset, after as many bytes as are passed over.
 unfoldable pub items_past : ℕ → ℕ → List ℕ → List Item
 items_past n at [] = line_end at ∷ []
 items_past (suc n) at (b ∷ bs) = items_past n (at + 1) bs
@@ -24,7 +24,7 @@ items_past zero at (b ∷ bs) =
     else if is_blank b then items_past zero (at + 1) bs
     else word (b ∷ take_while is_solid bs) at ∷ items_past (prefix_len is_solid bs) (at + 1) bs
 
--- the items of the input from a place on
+-- the items of the input from an offset on
 abbrev pub items : List ℕ → ℕ → List Item
 items bytes from = items_past 0 from (drop from bytes)
 

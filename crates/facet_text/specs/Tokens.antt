@@ -21,7 +21,7 @@ has Digit b = between 48 57 b
 has Letter b = between 65 90 b || between 97 122 b
 has NameByte b = between 65 90 b || between 97 122 b || between 48 57 b || b == 95 || b == 35 || b == 46 || b == 45
 
--- A token: its kind, its bytes and the place of the first.
+-- A token: its kind, its bytes and the offset of the first.
 abbrev pub Spot : Type 0
 Spot = TokenKind × List ℕ × ℕ
 
@@ -50,7 +50,7 @@ more_at b bs =
     if has Letter b then prefix_len (has NameByte) bs else if has Digit b then prefix_len (has Digit) bs
     else if is_long_assign b bs then 1 else 0
 
--- The tokens of the bytes, of which the first stands at a place, after as many bytes as are passed over.
+-- The tokens of the bytes, of which the first stands at an offset, after as many bytes as are passed over.
 unfoldable pub tokens_past : ℕ → ℕ → List ℕ → List Spot
 tokens_past n at [] = []
 tokens_past (suc n) at (b ∷ bs) = tokens_past n (at + 1) bs
@@ -58,6 +58,6 @@ tokens_past zero at (b ∷ bs) =
     if has Blank b then tokens_past zero (at + 1) bs
     else (kind_at b bs, b ∷ take (more_at b bs) bs, at) ∷ tokens_past (more_at b bs) (at + 1) bs
 
--- the tokens of the input from a place on
+-- the tokens of the input from an offset on
 abbrev pub tokens : List ℕ → ℕ → List Spot
 tokens bytes from = tokens_past 0 from (drop from bytes)

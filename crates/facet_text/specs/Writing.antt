@@ -2,7 +2,7 @@
 use Rattle.std.specs.Prelude.{◌≡◌, ◌<◌, ◌≤◌, ◌+◌, ℕ, List, [], ◌∷◌, ◌++◌, drop, length, map, if◌then◌else◌, nat_lt, nat_eq}
 use Rattle.std.specs.List.{AllByRecursion, join_with_byte, prefix_len, starts_with}
 use Rattle.std.specs.Fmt.{decimal}
-use Rattle.complex_core.specs.Spaces.{IsComplex, Space}
+use Rattle.complex_core.specs.Complexes.{IsComplex, ComplexView}
 use Rattle.facet_text.specs.Tokens.{has}
 use Rattle.facet_text.specs.declared.token.Class.TheVariants.{Blank}
 use Rattle.facet_text.specs.Grammar.{Facets, labels_of}
@@ -26,7 +26,7 @@ abbrev pub OnlyAdds : List ℕ → List ℕ → Type 0
 OnlyAdds old new = (more : List ℕ) × (new ≡ old ++ more)
 
 -- the limits that a text keeps
-pub record KeepsLimits (k : Space) : Type 0 where
+pub record KeepsLimits (k : ComplexView) : Type 0 where
   pub complex : IsComplex k
   pub dim : 0 < k.dim
   pub small : AllByRecursion (λ f. AllByRecursion (λ n. n ≤ 60000) f) k.facets

@@ -6,7 +6,7 @@ ghost use Rattle.facet_text.specs.declared.fault.TextFault.TheVariants.{Memory};
 use std::alloc::{AllocError, AllocFailed};
 use thiserror::Error;
 
-/// The first fault of a text from left to right. A place counts the bytes before it in the whole
+/// The first fault of a text from left to right. An offset counts the bytes before it in the whole
 /// input.
 #[derive(Clone, Copy, Debug, PartialEq, Eq, Error)]
 pub enum TextFault {

@@ -30,29 +30,29 @@ const GREATEST: u32 = 60_000;
 /// A number that is no label, and as which each greater one is read.
 const TOO_GREAT: u32 = 65_535;
 
-/// Reads one complex from a place on, and answers the place after it: after the `;` that may stand
+/// Reads one complex from an offset on, and answers the offset after it: after the `;` that may stand
 /// behind its list, or else after the list's `]`.
 #[tactic(auto, unfolding(crate::specs::Grammar::after_list))]
 pub fn read_complex(alloc: Global, bytes: &[u8], from: usize) -> Result<(Complex, usize), TextFault>
     requires { from ≤ length bytes.now }
     ensures read { Gives result (complex_at bytes.now from) }
     ensures limits { IfOk result (λ x. KeepsLimits x.0) }
-    ensures place { IfOk result (λ x. (from < x.1) × (x.1 ≤ length bytes.now)) }
+    ensures offset { IfOk result (λ x. (from < x.1) × (x.1 ≤ length bytes.now)) }
 {
-    let place = read_start(bytes, from)?;
+    let offset = read_start(bytes, from)?;
     let mut facets = Vec::new(alloc);
-    let place = read_facets(bytes, place, &mut facets)?;
+    let offset = read_facets(bytes, offset, &mut facets)?;
     let complex = complex_of(alloc, &facets)?;
-    keep_limits(complex, list_end(bytes, place))
+    keep_limits(complex, list_end(bytes, offset))
 }
 
-/// The token at or after a place, or that the input ends too early.
+/// The token at or after an offset, or that the input ends too early.
 fn token_at(bytes: &[u8], from: usize) -> Result<Token<'_>, TextFault>
     requires { from ≤ length bytes.now }
     ensures token { MatchResult result
         (λ t. tokens bytes.now from ≡ view t ∷ tokens bytes.now t.end)
         (λ e. (tokens bytes.now from ≡ []) × (e ≡ TextFault.Syntax (length bytes.now))) }
-    ensures place { IfOk result (λ t. (from < t.end) × (t.end ≤ length bytes.now)) }
+    ensures offset { IfOk result (λ t. (from < t.end) × (t.end ≤ length bytes.now)) }
     ensures end { IfOk result (λ t. t.end ≡ t.start + length t.text.now) }
     ensures digits { IfOk result (λ t. t.kind ≡ TokenKind.Label → AllPass (has Digit) t.text.now) }
 {
@@ -68,8 +68,8 @@ fn read_start(bytes: &[u8], from: usize) -> Result<usize, TextFault>
     requires { from ≤ length bytes.now }
     ensures goes_on { GoesOn result
         (complex_from (length bytes.now) (tokens bytes.now from))
-        (λ place. facet_from (length bytes.now) [] (tokens bytes.now place)) }
-    ensures place { IfOk result (λ place. (from < place) × (place ≤ length bytes.now)) }
+        (λ offset. facet_from (length bytes.now) [] (tokens bytes.now offset)) }
+    ensures offset { IfOk result (λ offset. (from < offset) × (offset ≤ length bytes.now)) }
 {
     let token = token_at(bytes, from)?;
     match token.kind {
@@ -90,8 +90,8 @@ fn read_open(bytes: &[u8], from: usize) -> Result<usize, TextFault>
     requires { from ≤ length bytes.now }
     ensures goes_on { GoesOn result
         (list_from (length bytes.now) (tokens bytes.now from))
-        (λ place. facet_from (length bytes.now) [] (tokens bytes.now place)) }
-    ensures place { IfOk result (λ place. (from < place) × (place ≤ length bytes.now)) }
+        (λ offset. facet_from (length bytes.now) [] (tokens bytes.now offset)) }
+    ensures offset { IfOk result (λ offset. (from < offset) × (offset ≤ length bytes.now)) }
 {
     let token = token_at(bytes, from)?;
     match token.kind {
@@ -100,37 +100,37 @@ fn read_open(bytes: &[u8], from: usize) -> Result<usize, TextFault>
     }
 }
 
-/// Reads the facets after the list's `[`, and answers the place after its `]`.
+/// Reads the facets after the list's `[`, and answers the offset after its `]`.
 #[tactic(auto, unfolding(crate::specs::Grammar::facet_from, crate::specs::Grammar::after_facet))]
 fn read_facets(bytes: &[u8], from: usize, facets: &mut Vec<Face>) -> Result<usize, TextFault>
     requires from { from ≤ length bytes.now }
     requires pure { ArePure facets.old.items }
     ensures goes_on { GoesOn result
         (facet_from (length bytes.now) facets.old.items (tokens bytes.now from))
-        (λ place. after_list place facets.new.items (tokens bytes.now place)) }
+        (λ offset. after_list offset facets.new.items (tokens bytes.now offset)) }
     ensures pure { OnOk result (ArePure facets.new.items) }
     ensures some { OnOk result (0 < length facets.new.items) }
-    ensures place { IfOk result (λ place. (from < place) × (place ≤ length bytes.now)) }
+    ensures offset { IfOk result (λ offset. (from < offset) × (offset ≤ length bytes.now)) }
 {
-    let mut place = from;
+    let mut offset = from;
     'facets: loop {
-        let token = token_at(bytes, place)?;
+        let token = token_at(bytes, offset)?;
         match token.kind {
             TokenKind::Open => {}
             _ => return Err(TextFault::Syntax(token.start)),
         }
-        place = read_facet(bytes, token.start, token.end, facets)?;
-        let token = token_at(bytes, place)?;
-        place = token.end;
+        offset = read_facet(bytes, token.start, token.end, facets)?;
+        let token = token_at(bytes, offset)?;
+        offset = token.end;
         match token.kind {
             TokenKind::Comma => {}
-            TokenKind::Close => return Ok(place),
+            TokenKind::Close => return Ok(offset),
             _ => return Err(TextFault::Syntax(token.start)),
         }
     }
 }
 
-/// Reads the labels of a facet that began at `start`, adds the facet, and answers the place after
+/// Reads the labels of a facet that began at `start`, adds the facet, and answers the offset after
 /// its `]`.
 #[tactic(auto, unfolding(crate::specs::Grammar::after_label))]
 fn read_facet(
@@ -143,29 +143,29 @@ fn read_facet(
     requires pure { ArePure facets.old.items }
     ensures goes_on { GoesOn result
         (label_from (length bytes.now) start [] facets.old.items (tokens bytes.now from))
-        (λ place. after_facet (length bytes.now) facets.new.items (tokens bytes.now place)) }
+        (λ offset. after_facet (length bytes.now) facets.new.items (tokens bytes.now offset)) }
     ensures pure { OnOk result (ArePure facets.new.items) }
     ensures some { OnOk result (0 < length facets.new.items) }
-    ensures place { IfOk result (λ place. (from < place) × (place ≤ length bytes.now)) }
+    ensures offset { IfOk result (λ offset. (from < offset) × (offset ≤ length bytes.now)) }
 {
     let mut labels = Face::new();
-    let mut place = from;
+    let mut offset = from;
     'labels: loop {
-        place = read_label(bytes, start, place, &mut labels)?;
-        let token = token_at(bytes, place)?;
-        place = token.end;
+        offset = read_label(bytes, start, offset, &mut labels)?;
+        let token = token_at(bytes, offset)?;
+        offset = token.end;
         match token.kind {
             TokenKind::Comma => {}
             TokenKind::Close => {
                 add_facet(start, labels, facets)?;
-                return Ok(place);
+                return Ok(offset);
             }
             _ => return Err(TextFault::Syntax(token.start)),
         }
     }
 }
 
-/// Reads a label into the labels of a facet that began at `start`, and answers the place after it.
+/// Reads a label into the labels of a facet that began at `start`, and answers the offset after it.
 #[tactic(auto, using(crate::proofs::ReadLaws::grown), unfolding(crate::specs::Grammar::label_from))]
 fn read_label(
     bytes: &[u8],
@@ -176,9 +176,9 @@ fn read_label(
     requires { from ≤ length bytes.now }
     ensures goes_on { (fs : List (List ℕ)) → GoesOn result
         (label_from (length bytes.now) start labels.old fs (tokens bytes.now from))
-        (λ place. after_label (length bytes.now) start labels.new fs (tokens bytes.now place)) }
+        (λ offset. after_label (length bytes.now) start labels.new fs (tokens bytes.now offset)) }
     ensures some { OnOk result ((0 < length labels.new) × (length labels.new ≤ 7)) }
-    ensures place { IfOk result (λ place. (from < place) × (place ≤ length bytes.now)) }
+    ensures offset { IfOk result (λ offset. (from < offset) × (offset ≤ length bytes.now)) }
 {
     let token = token_at(bytes, from)?;
     match token.kind {
@@ -256,10 +256,10 @@ fn complex_of(alloc: Global, facets: &[Face]) -> Result<Complex, AllocError>
     }
 }
 
-/// The complex and the place after it, where it has few enough facets and labels.
-fn keep_limits(complex: Complex, place: usize) -> Result<(Complex, usize), TextFault>
-    ensures read { Gives result (limits_then complex (Ok (complex, place))) }
-    ensures place { IfOk result (λ x. x.1 ≡ place) }
+/// The complex and the offset after it, where it has few enough facets and labels.
+fn keep_limits(complex: Complex, offset: usize) -> Result<(Complex, usize), TextFault>
+    ensures read { Gives result (limits_then complex (Ok (complex, offset))) }
+    ensures offset { IfOk result (λ x. x.1 ≡ offset) }
 {
     if complex.facets().len() > MOST_FACETS {
         return Err(TextFault::TooManyFacets);
@@ -267,14 +267,14 @@ fn keep_limits(complex: Complex, place: usize) -> Result<(Complex, usize), TextF
     if complex.labels()?.len() > MOST_LABELS {
         return Err(TextFault::TooManyLabels);
     }
-    Ok((complex, place))
+    Ok((complex, offset))
 }
 
-/// The place after the complex whose list ended at a place: a `;` may follow.
+/// The offset after the complex whose list ended at an offset: a `;` may follow.
 fn list_end(bytes: &[u8], from: usize) -> usize
     requires { from ≤ length bytes.now }
     ensures end { result ≡ list_end from (tokens bytes.now from) }
-    ensures place { (from ≤ result) × (result ≤ length bytes.now) }
+    ensures offset { (from ≤ result) × (result ≤ length bytes.now) }
 {
     match next_token(bytes, from) {
         Some(token) => match token.kind {

@@ -60,7 +60,7 @@ pub(crate) fn is_blank(byte: u8) -> bool
     matches!(byte, b' ' | b'\t' | b'\r' | b'\n')
 }
 
-/// Where the longest run of bytes of a class ends that begins at a place.
+/// Where the longest run of bytes of a class ends that begins at an offset.
 fn run_end(bytes: &[u8], from: usize, class: Class) -> usize
     requires { from ≤ length bytes.now }
     ensures end { result ≡ from + prefix_len (has class) (drop from bytes.now) }
@@ -73,7 +73,7 @@ fn run_end(bytes: &[u8], from: usize, class: Class) -> usize
     end
 }
 
-/// The kind of the token that begins at a place, and where it ends.
+/// The kind of the token that begins at an offset, and where it ends.
 #[tactic(auto, unfolding(crate::specs::Tokens::kind_at, crate::specs::Tokens::more_at))]
 fn span_at(bytes: &[u8], start: usize) -> (TokenKind, usize)
     requires { start < length bytes.now }
@@ -108,14 +108,14 @@ fn sign_kind(byte: u8) -> TokenKind
     }
 }
 
-/// The first token at or after a place.
+/// The first token at or after an offset.
 pub fn next_token(bytes: &[u8], from: usize) -> Option<Token<'_>>
     requires { from ≤ length bytes.now }
     ensures first { MatchOption result (tokens bytes.now from ≡ [])
         (λ t. tokens bytes.now from ≡ view t ∷ tokens bytes.now t.end) }
     ensures span { IfSome result (λ t. t.text.now ≡ slice_range bytes.now t.start t.end) }
     ensures blanks { IfSome result (λ t. AllPass (has Blank) (slice_range bytes.now from t.start)) }
-    ensures place { IfSome result (λ t. (from ≤ t.start) × (t.start < t.end) × (t.end ≤ length bytes.now)) }
+    ensures offset { IfSome result (λ t. (from ≤ t.start) × (t.start < t.end) × (t.end ≤ length bytes.now)) }
     ensures end { IfSome result (λ t. t.end ≡ t.start + length t.text.now) }
     ensures none { IsNone result ↔ AllPass (has Blank) (drop from bytes.now) }
     ensures digits { IfSome result (λ t. t.kind ≡ TokenKind.Label → AllPass (has Digit) t.text.now) }

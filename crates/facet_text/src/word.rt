@@ -8,7 +8,7 @@ ghost use Rattle.facet_text.specs.Lines.{AfterEnds, AreEnds, feeds_in, is_feed, 
 use crate::token::is_blank;
 
 /// A longest run of bytes that aren't blanks, with its span, and the number of line feeds between
-/// the place from which it was looked for and the word.
+/// the offset from which it was looked for and the word.
 #[derive(Clone, Copy, Debug, PartialEq, Eq)]
 pub struct Word<'a> {
     pub text: &'a [u8],
@@ -37,7 +37,7 @@ fn feeds_in(byte: u8) -> usize
     if byte == b'\n' { 1 } else { 0 }
 }
 
-/// The first word at or after a place.
+/// The first word at or after an offset.
 pub fn next_word(bytes: &[u8], from: usize) -> Option<Word<'_>>
     requires { from ≤ length bytes.now }
     ensures first { MatchOption result (AreEnds (items bytes.now from))
@@ -47,7 +47,7 @@ pub fn next_word(bytes: &[u8], from: usize) -> Option<Word<'_>>
     ensures blanks { IfSome result (λ w. AllPass is_blank (slice_range bytes.now from w.start)) }
     ensures feeds { IfSome result (λ w. w.feeds ≡ length (filter is_feed (slice_range bytes.now from w.start))) }
     ensures none { IsNone result ↔ AllPass is_blank (drop from bytes.now) }
-    ensures place { IfSome result (λ w. (from ≤ w.start) × (w.start < w.end) × (w.end ≤ length bytes.now)) }
+    ensures offset { IfSome result (λ w. (from ≤ w.start) × (w.start < w.end) × (w.end ≤ length bytes.now)) }
 {
     let mut start = from;
     let mut feeds = 0;

@@ -2,7 +2,7 @@
 
 ghost use Rattle.std.specs.Prelude.{◌≡◌, ◌+◌, ◌++◌, ℕ, List, Ok, length, OnErr, OnOk};
 ghost use Rattle.std.specs.Fmt.{decimal};
-ghost use Rattle.complex_core.specs.Spaces.{Space};
+ghost use Rattle.complex_core.specs.Complexes.{ComplexView};
 ghost use Rattle.facet_text.specs.Grammar.{complex_at};
 ghost use Rattle.facet_text.specs.Writing.{KeepsLimits, OnlyAdds, comma_before, facet_text, text_of, to_semicolon};
 
@@ -24,9 +24,9 @@ pub fn write_complex(complex: &Complex, out: &mut Vec<u8>) -> Result<(), AllocEr
 }
 
 /// A complex that was written is read again, whatever bytes stand before and after its text. Where
-/// a `;` follows behind blanks the place is after it, and else after the text.
+/// a `;` follows behind blanks the offset is after it, and else after the text.
 pub fn written_is_read()
-    ensures { (before after : List ℕ) (k : Space) → KeepsLimits k →
+    ensures { (before after : List ℕ) (k : ComplexView) → KeepsLimits k →
         complex_at (before ++ text_of k.facets ++ after) (length before)
         ≡ Ok (k, length before + length (text_of k.facets) + to_semicolon after) }
 {}

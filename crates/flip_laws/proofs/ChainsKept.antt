@@ -3,7 +3,7 @@ use Rattle.std.proofs.Common.{◌≡◌, ◌≢◌, ℕ, true, false, nat_eq, Li
 use Rattle.complex_core.specs.Labels.{has, holds, without}
 use Rattle.complex_core.proofs.Laws.{listed, nat_eq_is, nat_eq_same}
 use Rattle.pseudo_test.specs.Ridges.{IsRidge}
-use Rattle.pseudo_test.specs.Chains.{Near, Linked, Joined, Strong}
+use Rattle.pseudo_test.specs.Chains.{Near, Linked, Joined, StronglyConnected}
 use Rattle.pseudo_test.proofs.Spreading.{here, step, join, near_back}
 use Rattle.flip_laws.proofs.Exchange.{Half, Exchange, turned}
 use Rattle.pseudo_test.proofs.Subsets.{holds_without, holds_through, holds_less, lacking}
@@ -102,7 +102,7 @@ module _ (fs gs : List (List ℕ)) (a b w : List ℕ) (e : Exchange fs gs a b w)
   ]
 
   -- a legal flip keeps strong connectedness
-  pub strong_kept : Strong fs → Strong gs
+  pub strong_kept : StronglyConnected fs → StronglyConnected gs
   strong_kept s = record {
     joined = λ f g t u.
         let p : (f' : List ℕ) × (listed fs f' ≡ true) × Joined gs f (goes f') × Joined gs (goes f') f = comes f t in

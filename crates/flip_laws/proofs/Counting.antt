@@ -8,7 +8,7 @@ use Rattle.std.specs.Cmp.Derive.{both_true}
 use Rattle.std.specs.Cmp.Lexicographic.{pointwise}
 use Rattle.std.proofs.lemmas.List.Kept.{IsStrictlySortedBy-filter}
 use Rattle.complex_core.specs.Labels.{has, holds, without, face_cmp}
-use Rattle.complex_core.specs.Spaces.{over, beside}
+use Rattle.complex_core.specs.Complexes.{over, beside}
 use Rattle.complex_core.proofs.Sets.{above_cons, sorted_none}
 use Rattle.complex_core.proofs.Laws.{both_ways, holds_each, or_left, or_right, listed, same_sets_is, same_set_itself, listed-filter, same_lists, sorted_without, nat_eq_is, nat_eq_same, length-without}
 use Rattle.pseudo_test.specs.Ridges.{count}

@@ -3,7 +3,7 @@ use Rattle.std.proofs.Common.{◌≡◌, ◌↔◌, Bool, true, false, IsTrue, O
 use Rattle.std.specs.Prelude.{IfOk, IfSome, MatchOption}
 use Rattle.std.specs.Ordering.{nat_cmp}
 use Rattle.complex_core.specs.Maps.{at, renamed}
-use Rattle.complex_core.specs.Spaces.{Space, IsComplex}
+use Rattle.complex_core.specs.Complexes.{ComplexView, IsComplex}
 use Rattle.complex_core.proofs.Sets.{above_tail}
 use Rattle.face_counts.proofs.Parts.{Sets}
 use Rattle.flip_laws.specs.declared.difference.Differ.{Differ}
@@ -38,13 +38,13 @@ same_answer false true A B p q r = p.1 (r.1 (q.0 refl))
 same_answer false false A B p q r = refl
 
 -- a difference contradicts one of the three facts
-excludes : (k l : Space) (d : Differ) → IsDifference k l d → Alike k l → ⊥
+excludes : (k l : ComplexView) (d : Differ) → IsDifference k l d → Alike k l → ⊥
 excludes k l (differ.Dimension m n) h a = h.2 (h.0 ∙ a.dim ∙ sym h.1)
 excludes k l (differ.Euler m n) h a = h.3 (h.1 ∙ a.euler ∙ sym h.2)
 excludes k l (differ.Orientable s t) h a = h.4 (same_answer s t _ _ h.2 h.3 a.orientable)
 
 -- so where there is one, no flips lead to an image
-pub sound_difference : {E : Type 0} (k l : Space) (r : Result (Option Differ) E) → IsComplex k → IsComplex l → IfOk r (λ d. MatchOption d (Alike k l) (IsDifference k l)) → IfOk r (λ d. IfSome d (λ _. LeadsToImage k l → ⊥))
+pub sound_difference : {E : Type 0} (k l : ComplexView) (r : Result (Option Differ) E) → IsComplex k → IsComplex l → IfOk r (λ d. MatchOption d (Alike k l) (IsDifference k l)) → IfOk r (λ d. IfSome d (λ _. LeadsToImage k l → ⊥))
 sound_difference k l (Ok (Some d)) hk hl h = λ e. excludes k l d h (image_is_alike k l hk hl e)
 sound_difference k l (Ok None) hk hl h = tt
 sound_difference k l (Err e) hk hl h = tt

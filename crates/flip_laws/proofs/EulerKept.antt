@@ -10,7 +10,7 @@ use Rattle.std.proofs.lemmas.Int.{ints}
 use Rattle.std.proofs.lemmas.List.Kept.{IsStrictlySortedBy-filter}
 use lib.IntN.{ℤ, pos, negsuc, ◌+ℤ◌}
 use Rattle.complex_core.specs.Labels.{has, holds, with, without, face_cmp}
-use Rattle.complex_core.specs.Spaces.{is_held}
+use Rattle.complex_core.specs.Complexes.{is_held}
 use Rattle.complex_core.proofs.Sets.{sorted_put, sorted_rising}
 use Rattle.complex_core.proofs.Faces.{with_new}
 use Rattle.complex_core.proofs.Laws.{both_ways, has-with, has-without, holds_has, holds_each, or_left, or_right, listed, same_sets_is, same_set_itself, listed-append, listed-filter, some_listed, none_listed, same_labels, sorted_without, nat_eq_is, nat_eq_same}

@@ -6,11 +6,11 @@ use Rattle.std.specs.Ordering.{nat_cmp}
 use Rattle.std.specs.Cmp.{first_so}
 use Rattle.std.specs.Cmp.Derive.{both_true}
 use Rattle.complex_core.specs.Labels.{has, holds, union, without, face_cmp, IsFace}
-use Rattle.complex_core.specs.Spaces.{Space, IsComplex, IsFacet, is_held}
+use Rattle.complex_core.specs.Complexes.{ComplexView, IsComplex, IsFacet, is_held}
 use Rattle.complex_core.proofs.Sets.{above_tail}
 use Rattle.complex_core.proofs.Laws.{has-union, has-without, listed, listed-filter, listed-rising, same_labels, sorted_union, sorted_without, length-union_apart, some_has, same_set_itself, nat_eq_is, some_listed, keep_other}
-use Rattle.flip_rules.specs.Flips.{sides, flipped, Legal}
-use Rattle.flip_rules.proofs.Links.{side, side_of, sides_hold, listed-sides, listed-flipped}
+use Rattle.flip_rules.specs.Flips.{join_boundary, flipped, Legal}
+use Rattle.flip_rules.proofs.Links.{side, side_of, sides_hold, listed-join_boundary, listed-flipped}
 use Rattle.flip_rules.proofs.Legal.{legal_from}
 use Rattle.flip_rules.proofs.Back.{legal_back, first_label}
 use Rattle.flip_rules.proofs.Replays.{complex_flipped}
@@ -54,35 +54,35 @@ side_is : (a b w : List ℕ) (x : ℕ) → IsStrictlySortedBy nat_cmp a → IsSt
 side_is a b w x s r both f = same_labels (side a b x) (without w x) (sorted_union a (without b x) s) (sorted_without w x r) (λ z.
     has-union a (without b x) z ∙ ap (λ c. has a z || c) (has-without b x z) ∙ keep_other (has a z) (has b z) (nat_eq z x) (neq_apart a x z f) ∙ ap (λ c. c && not (nat_eq z x)) (sym (both z)) ∙ sym (has-without w x z))
 
-free_of : (k : Space) (b : List ℕ) → is_held k.facets b ≡ false → (f : List ℕ) → listed k.facets f ≡ true → holds f b ≡ false
+free_of : (k : ComplexView) (b : List ℕ) → is_held k.facets b ≡ false → (f : List ℕ) → listed k.facets f ≡ true → holds f b ≡ false
 free_of k b n f t = elim (holds f b) as (λ c. holds f b ≡ c → c ≡ false) [ true ↦ λ e. sym (some_listed (λ g. holds g b) k.facets f t e) ∙ n | false ↦ λ e. refl ] refl
 
-half : (k : Space) (a b w : List ℕ) → IsComplex k → IsFace a → IsStrictlySortedBy nat_cmp w → length w ≡ k.dim + 2 → ((z : ℕ) → has w z ≡ (has a z || has b z)) → Legal k a b → Half k.facets a b w
+half : (k : ComplexView) (a b w : List ℕ) → IsComplex k → IsFace a → IsStrictlySortedBy nat_cmp w → length w ≡ k.dim + 2 → ((z : ℕ) → has w z ≡ (has a z || has b z)) → Legal k a b → Half k.facets a b w
 half k a b w h fa s n both l = record {
   rises = h.rising;
   facets = λ f t. let p : IsFacet k.dim f = pure_at k.dim k.facets f h.pure t in (above_tail nat_cmp 0 f p.face.rising, omega (arith, p.size, n));
   free = free_of k b l.free;
   outs = λ f t e. let r : (x : ℕ) × (has b x ≡ true) × (f ≡ side a b x) = side_of a b f (old f ∙ both_true t e) in (r.0, r.1, r.2 ∙ same r.0 r.1);
-  was = λ x t. first_so (listed k.facets (without w x)) (holds (without w x) a) (sym (old (without w x)) ∙ ap (listed (sides a b)) (sym (same x t)) ∙ listed-sides a b b (side a b x) ∙ some_has (λ y. pointwise nat_eq (side a b y) (side a b x)) b x t (same_set_itself (side a b x)));
+  was = λ x t. first_so (listed k.facets (without w x)) (holds (without w x) a) (sym (old (without w x)) ∙ ap (listed (join_boundary a b)) (sym (same x t)) ∙ listed-join_boundary a b b (side a b x) ∙ some_has (λ y. pointwise nat_eq (side a b y) (side a b x)) b x t (same_set_itself (side a b x)));
   apart = l.shape.apart;
   labels = s;
   both = both;
 }
   where
-    old : (f : List ℕ) → listed (sides a b) f ≡ (listed k.facets f && holds f a)
-    old f = sym (listed-rising (sides a b) f) ∙ ap (λ fs. listed fs f) (sym l.link) ∙ listed-filter (λ g. holds g a) k.facets f
+    old : (f : List ℕ) → listed (join_boundary a b) f ≡ (listed k.facets f && holds f a)
+    old f = sym (listed-rising (join_boundary a b) f) ∙ ap (λ fs. listed fs f) (sym l.link) ∙ listed-filter (λ g. holds g a) k.facets f
 
     same : (x : ℕ) → has b x ≡ true → side a b x ≡ without w x
     same x t = side_is a b w x (above_tail nat_cmp 0 a fa.rising) s both (not_both a b w l.shape.apart x t)
 
 -- what a legal flip does
-pub made_exchange : (k : Space) (a b : List ℕ) → IsComplex k → IsFace a → IsFace b → Legal k a b → Exchange k.facets (flipped k a b).facets a b (union a b)
+pub made_exchange : (k : ComplexView) (a b : List ℕ) → IsComplex k → IsFace a → IsFace b → Legal k a b → Exchange k.facets (flipped k a b).facets a b (union a b)
 made_exchange k a b h fa fb l = record {
   some_a = first_label a l.shape.first;
   some_b = first_label b l.shape.second;
   old = half k a b (union a b) h fa s n (has-union a b) l;
   new = half (flipped k a b) b a (union a b) h' fb s n (λ z. has-union a b z ∙ or_swap (has a z) (has b z)) (legal_back k a b h.rising l);
-  stays = λ f p q. sym (listed-flipped k a b f ∙ kept (listed k.facets f) (holds f a) (listed (sides b a) f) p (no_side f q));
+  stays = λ f p q. sym (listed-flipped k a b f ∙ kept (listed k.facets f) (holds f a) (listed (join_boundary b a) f) p (no_side f q));
 }
   where
     s : IsStrictlySortedBy nat_cmp (union a b)
@@ -97,8 +97,8 @@ made_exchange k a b h fa fb l = record {
     h' : IsComplex (flipped k a b)
     h' = complex_flipped k a b h fa fb (legal_from k a b l)
 
-    no_side : (f : List ℕ) → holds f b ≡ false → listed (sides b a) f ≡ false
-    no_side f q = elim (listed (sides b a) f) as (λ c. listed (sides b a) f ≡ c → c ≡ false) [ true ↦ λ e. sym (sides_hold b a f e) ∙ q | false ↦ λ e. refl ] refl
+    no_side : (f : List ℕ) → holds f b ≡ false → listed (join_boundary b a) f ≡ false
+    no_side f q = elim (listed (join_boundary b a) f) as (λ c. listed (join_boundary b a) f ≡ c → c ≡ false) [ true ↦ λ e. sym (sides_hold b a f e) ∙ q | false ↦ λ e. refl ] refl
 
     kept : (p q r : Bool) → q ≡ false → r ≡ false → ((p && not q) || r) ≡ p
     kept true q r e g = λ i. (not (e i)) || g i

@@ -9,7 +9,7 @@ use Rattle.std.specs.Cmp.Lexicographic.{pointwise}
 use Rattle.std.proofs.lemmas.List.Kept.{IsStrictlySortedBy-filter}
 use lib.IntN.{pos, negsuc, ◌+ℤ◌}
 use Rattle.complex_core.specs.Labels.{has, holds, face_cmp}
-use Rattle.complex_core.specs.Spaces.{is_held}
+use Rattle.complex_core.specs.Complexes.{is_held}
 use Rattle.complex_core.proofs.Laws.{both_ways, holds_has, holds_each, or_left, or_right, listed, same_set_itself, some_listed, same_labels, nat_eq_is, nat_eq_same}
 use Rattle.face_counts.specs.Faces.{faces, is_some}
 use Rattle.face_counts.specs.Eulers.{odd, total, sign, euler}

@@ -12,13 +12,13 @@ use Rattle.std.proofs.lemmas.Bool.Decides.{nat_tests}
 use Rattle.std.proofs.lemmas.List.Kept.{IsStrictlySortedBy-filter}
 use Rattle.complex_core.specs.Labels.{has, holds, without, face_cmp}
 use Rattle.complex_core.specs.Rising.{rising, put}
-use Rattle.complex_core.specs.Spaces.{over}
+use Rattle.complex_core.specs.Complexes.{over}
 use Rattle.complex_core.proofs.Sets.{among, above_head, above_tail, not_among, sorted_rising, length-put_new}
 use Rattle.complex_core.proofs.Faces.{among-has, less_cmp}
 use Rattle.complex_core.proofs.Laws.{both_ways, holds_has, holds_each, or_left, or_right, listed, same_sets_is, same_set_itself, listed-filter, listed-rising, listed-among, same_lists, same_labels, sorted_without, nat_eq_is, nat_eq_same}
 use Rattle.pseudo_test.specs.Ridges.{count}
 use Rattle.orient_test.specs.Signs.{odd}
-use Rattle.orient_test.specs.Signs.{times, place, induced, Orientable}
+use Rattle.orient_test.specs.Signs.{times, position, induced, Orientable}
 use Rattle.flip_laws.proofs.Images.{image, images}
 use Rattle.pseudo_test.proofs.Subsets.{holds_without, holds_through}
 use Rattle.flip_laws.proofs.Totals.{Distinct, distinct_sorted}
@@ -254,11 +254,11 @@ module _ (m : ℕ → ℕ) (u : List ℕ) (one : (x y : ℕ) → has u x ≡ tru
   abbrev before : List ℕ → ℕ → ℕ
   before f x = length (filter (λ y. nat_lt (m y) (m x)) f)
 
-  -- the place in the image, by the place and the pairs turned round
-  parity : (f : List ℕ) (x : ℕ) → IsStrictlySortedBy nat_cmp f → holds u f ≡ true → has f x ≡ true → odd (before f x) ≡ times (odd (place f x)) (times (turns f) (turns (without f x)))
+  -- the position in the image, by the position and the pairs turned round
+  parity : (f : List ℕ) (x : ℕ) → IsStrictlySortedBy nat_cmp f → holds u f ≡ true → has f x ≡ true → odd (before f x) ≡ times (odd (position f x)) (times (turns f) (turns (without f x)))
   parity [] x s h t = clash true refl (sym t)
   parity (z ∷ zs) x s h t = elim (two (nat_eq z x)) [
-    | inl e ↦ let P : ℕ → Type 0 = λ v. odd (before (z ∷ zs) v) ≡ times (odd (place (z ∷ zs) v)) (times (turns (z ∷ zs)) (turns (without (z ∷ zs) v))) in subst P (nat_eq_is z x e) head
+    | inl e ↦ let P : ℕ → Type 0 = λ v. odd (before (z ∷ zs) v) ≡ times (odd (position (z ∷ zs) v)) (times (turns (z ∷ zs)) (turns (without (z ∷ zs) v))) in subst P (nat_eq_is z x e) head
     | inr e ↦ let p : has zs x ≡ true = sym (ap (λ c. c || has zs x) e) ∙ t in tail e p (parity zs x (above_tail nat_cmp z zs s) (second_so (has u z) (holds u zs) h) p)
   ]
     where
@@ -271,16 +271,16 @@ module _ (m : ℕ → ℕ) (u : List ℕ) (one : (x y : ℕ) → has u x ≡ tru
       gone : without (z ∷ zs) z ≡ zs
       gone = ap (λ c. cond (not c) (z ∷ without zs z) (without zs z)) (nat_eq_same z) ∙ without_none zs z out
 
-      low : place (z ∷ zs) z ≡ 0
+      low : position (z ∷ zs) z ≡ 0
       low = ap (λ c. length (cond c (z ∷ filter (λ y. nat_lt y z) zs) (filter (λ y. nat_lt y z) zs))) (lt_itself z) ∙ place_low z zs above
 
       first : before (z ∷ zs) z ≡ before zs z
       first = ap (λ c. length (cond c (z ∷ filter (λ y. nat_lt (m y) (m z)) zs) (filter (λ y. nat_lt (m y) (m z)) zs))) (lt_itself (m z))
 
-      head : odd (before (z ∷ zs) z) ≡ times (odd (place (z ∷ zs) z)) (times (turns (z ∷ zs)) (turns (without (z ∷ zs) z)))
+      head : odd (before (z ∷ zs) z) ≡ times (odd (position (z ∷ zs) z)) (times (turns (z ∷ zs)) (turns (without (z ∷ zs) z)))
       head = ap odd first ∙ head_table (odd (before zs z)) (turns zs) ∙ (λ i. times (odd (sym low i)) (times (times (odd (before zs z)) (turns zs)) (turns (sym gone i))))
 
-      tail : nat_eq z x ≡ false → has zs x ≡ true → odd (before zs x) ≡ times (odd (place zs x)) (times (turns zs) (turns (without zs x))) → odd (before (z ∷ zs) x) ≡ times (odd (place (z ∷ zs) x)) (times (turns (z ∷ zs)) (turns (without (z ∷ zs) x)))
+      tail : nat_eq z x ≡ false → has zs x ≡ true → odd (before zs x) ≡ times (odd (position zs x)) (times (turns zs) (turns (without zs x))) → odd (before (z ∷ zs) x) ≡ times (odd (position (z ∷ zs) x)) (times (turns (z ∷ zs)) (turns (without (z ∷ zs) x)))
       tail e p again =
           let uz : has u z ≡ true = first_so (has u z) (holds u zs) h in
           let us : holds u zs ≡ true = second_so (has u z) (holds u zs) h in
@@ -289,14 +289,14 @@ module _ (m : ℕ → ℕ) (u : List ℕ) (one : (x y : ℕ) → has u x ≡ tru
           let step : without (z ∷ zs) x ≡ z ∷ without zs x = ap (λ c. cond (not c) (z ∷ without zs x) (without zs x)) e in
           let less : nat_lt z x ≡ true = lt-ltb z x (above x p) in
           let sz : IsStrictlySortedBy nat_cmp zs = above_tail nat_cmp z zs s in
-          let left : odd (before (z ∷ zs) x) ≡ times (not (nat_lt (m x) (m z))) (times (odd (place zs x)) (times (turns zs) (turns (without zs x)))) =
+          let left : odd (before (z ∷ zs) x) ≡ times (not (nat_lt (m x) (m z))) (times (odd (position zs x)) (times (turns zs) (turns (without zs x)))) =
           ap odd (passing-first (λ y. nat_lt (m y) (m x)) z zs) ∙ odd_plus (nat_lt (m z) (m x)) (before zs x) ∙ (λ i. times (lt_turn (m x) (m z) n i) (again i)) in
-          let pl : odd (place (z ∷ zs) x) ≡ not (odd (place zs x)) = ap odd (passing-first (λ y. nat_lt y x) z zs) ∙ odd_plus (nat_lt z x) (place zs x) ∙ ap (λ c. times c (odd (place zs x))) less in
+          let pl : odd (position (z ∷ zs) x) ≡ not (odd (position zs x)) = ap odd (passing-first (λ y. nat_lt y x) z zs) ∙ odd_plus (nat_lt z x) (position zs x) ∙ ap (λ c. times c (odd (position zs x))) less in
           let tw : turns (without (z ∷ zs) x) ≡ times (times (nat_lt (m x) (m z)) (odd (before zs z))) (turns (without zs x)) = ap turns step ∙ ap (λ c. times c (turns (without zs x))) (odd_more (before (without zs x) z) (before zs z) (nat_lt (m x) (m z)) (passing-without (λ y. nat_lt (m y) (m z)) zs x sz p)) in
-          left ∙ tail_table (nat_lt (m x) (m z)) (odd (place zs x)) (odd (before zs z)) (turns zs) (turns (without zs x)) ∙ (λ i. times (sym pl i) (times (turns (z ∷ zs)) (sym tw i)))
+          left ∙ tail_table (nat_lt (m x) (m z)) (odd (position zs x)) (odd (before zs z)) (turns zs) (turns (without zs x)) ∙ (λ i. times (sym pl i) (times (turns (z ∷ zs)) (sym tw i)))
 
-  place-image : (f : List ℕ) (x : ℕ) → IsStrictlySortedBy nat_cmp f → holds u f ≡ true → has f x ≡ true → odd (place (image m f) (m x)) ≡ times (odd (place f x)) (times (turns f) (turns (without f x)))
-  place-image f x s h t = ap odd (passing-image (λ v. nat_lt v (m x)) f s h) ∙ parity f x s h t
+  position-image : (f : List ℕ) (x : ℕ) → IsStrictlySortedBy nat_cmp f → holds u f ≡ true → has f x ≡ true → odd (position (image m f) (m x)) ≡ times (odd (position f x)) (times (turns f) (turns (without f x)))
+  position-image f x s h t = ap odd (passing-image (λ v. nat_lt v (m x)) f s h) ∙ parity f x s h t
 
   module _ (fs : List (List ℕ)) (sets : Sets fs) (all : (f : List ℕ) → listed fs f ≡ true → holds u f ≡ true) (rises : IsStrictlySortedBy face_cmp fs) where
     pub one_set : (f g : List ℕ) → listed fs f ≡ true → listed fs g ≡ true → image m f ≡ image m g → f ≡ g
@@ -346,8 +346,8 @@ module _ (m : ℕ → ℕ) (u : List ℕ) (one : (x y : ℕ) → has u x ≡ tru
     pulled : (List ℕ → Bool) → List ℕ → Bool
     pulled s f = times (s (image m f)) (turns f)
 
-    pull_is : (s : List ℕ → Bool) (f : List ℕ) (x : ℕ) → listed fs f ≡ true → has f x ≡ true → induced s (image m f) (m x) ≡ times (times (times (s (image m f)) (turns f)) (odd (place f x))) (turns (without f x))
-    pull_is s f x t fx = ap (times (s (image m f))) (place-image f x (sets f t) (all f t) fx) ∙ pull_table (s (image m f)) (odd (place f x)) (turns f) (turns (without f x))
+    pull_is : (s : List ℕ → Bool) (f : List ℕ) (x : ℕ) → listed fs f ≡ true → has f x ≡ true → induced s (image m f) (m x) ≡ times (times (times (s (image m f)) (turns f)) (odd (position f x))) (turns (without f x))
+    pull_is s f x t fx = ap (times (s (image m f))) (position-image f x (sets f t) (all f t) fx) ∙ pull_table (s (image m f)) (odd (position f x)) (turns f) (turns (without f x))
 
     pub pull : Orientable (images m fs) → Orientable fs
     pull o = record {
@@ -360,9 +360,9 @@ module _ (m : ℕ → ℕ) (u : List ℕ) (one : (x y : ℕ) → has u x ≡ tru
             let e' : without (image m g) (m y) ≡ image m (without g y) = image_without g y (all g p) uy in
             let c' : count (images m fs) (without (image m f) (m x)) ≡ 2 = ap (count (images m fs)) e ∙ count-image (without f x) (part_used f x t) ∙ c in
             let q : induced o.signs (image m f) (m x) ≡ not (induced o.signs (image m g) (m y)) = o.is.opposite (image m f) (image m g) (m x) (m y) (listed_image f t) (listed_image g p) (in_image m f x fx) (in_image m g y gy) (λ z. n (one_set f g t p z)) (e ∙ ap (image m) r ∙ sym e') c' in
-            let s : times (times (times (o.signs (image m f)) (turns f)) (odd (place f x))) (turns (without f x)) ≡ not (times (times (times (o.signs (image m g)) (turns g)) (odd (place g y))) (turns (without f x))) =
-            sym (pull_is o.signs f x t fx) ∙ q ∙ ap not (pull_is o.signs g y p gy ∙ ap (λ v. times (times (times (o.signs (image m g)) (turns g)) (odd (place g y))) (turns v)) (sym r)) in
-            drop_common (times (times (o.signs (image m f)) (turns f)) (odd (place f x))) (times (times (o.signs (image m g)) (turns g)) (odd (place g y))) (turns (without f x)) s;
+            let s : times (times (times (o.signs (image m f)) (turns f)) (odd (position f x))) (turns (without f x)) ≡ not (times (times (times (o.signs (image m g)) (turns g)) (odd (position g y))) (turns (without f x))) =
+            sym (pull_is o.signs f x t fx) ∙ q ∙ ap not (pull_is o.signs g y p gy ∙ ap (λ v. times (times (times (o.signs (image m g)) (turns g)) (odd (position g y))) (turns v)) (sym r)) in
+            drop_common (times (times (o.signs (image m f)) (turns f)) (odd (position f x))) (times (times (o.signs (image m g)) (turns g)) (odd (position g y))) (turns (without f x)) s;
       };
     }
 
@@ -382,8 +382,8 @@ module _ (m : ℕ → ℕ) (u : List ℕ) (one : (x y : ℕ) → has u x ≡ tru
           ap (λ c. cond c (times (s g) (turns g)) (carried s rest (image m f))) e ∙ carried_is s rest f (sym (ap (λ c. c || listed rest f) ng) ∙ t) (λ v q. h v (or_right (pointwise nat_eq g v) (listed rest v) q))
     ]
 
-    push_is : (s : List ℕ → Bool) (f : List ℕ) (x : ℕ) → listed fs f ≡ true → has f x ≡ true → induced (carried s fs) (image m f) (m x) ≡ times (times (s f) (odd (place f x))) (turns (without f x))
-    push_is s f x t fx = (λ i. times (carried_is s fs f t (λ g q e. one_set g f q t e) i) (place-image f x (sets f t) (all f t) fx i)) ∙ push_table (s f) (odd (place f x)) (turns f) (turns (without f x))
+    push_is : (s : List ℕ → Bool) (f : List ℕ) (x : ℕ) → listed fs f ≡ true → has f x ≡ true → induced (carried s fs) (image m f) (m x) ≡ times (times (s f) (odd (position f x))) (turns (without f x))
+    push_is s f x t fx = (λ i. times (carried_is s fs f t (λ g q e. one_set g f q t e) i) (position-image f x (sets f t) (all f t) fx i)) ∙ push_table (s f) (odd (position f x)) (turns f) (turns (without f x))
 
     pub push : Orientable fs → Orientable (images m fs)
     push o = record {
@@ -407,6 +407,6 @@ module _ (m : ℕ → ℕ) (u : List ℕ) (one : (x y : ℕ) → has u x ≡ tru
             let r0 : without f x ≡ without g y = image_one (without f x) (without g y) (sorted_without f x (sets f t)) (sorted_without g y (sets g p)) (part_used f x t) (part_used g y p) (sym e ∙ r ∙ e') in
             let c0 : count fs (without f x) ≡ 2 = sym (count-image (without f x) (part_used f x t)) ∙ ap (count (images m fs)) (sym e) ∙ c in
             let q : induced o.signs f x ≡ not (induced o.signs g y) = o.is.opposite f g x y t p fx gy (λ z. n (ef ∙ ap (image m) z ∙ sym eg)) r0 c0 in
-            let left : induced (carried o.signs fs) f' x' ≡ times (times (o.signs f) (odd (place f x))) (turns (without f x)) = (λ i. induced (carried o.signs fs) (ef i) (ex i)) ∙ push_is o.signs f x t fx in
-            let right : induced (carried o.signs fs) g' y' ≡ times (times (o.signs g) (odd (place g y))) (turns (without f x)) = (λ i. induced (carried o.signs fs) (eg i) (ey i)) ∙ push_is o.signs g y p gy ∙ ap (λ v. times (times (o.signs g) (odd (place g y))) (turns v)) (sym r0) in
-            left ∙ add_common (times (o.signs f) (odd (place f x))) (times (o.signs g) (odd (place g y))) (turns (without f x)) q ∙ ap not (sym right)
+            let left : induced (carried o.signs fs) f' x' ≡ times (times (o.signs f) (odd (position f x))) (turns (without f x)) = (λ i. induced (carried o.signs fs) (ef i) (ex i)) ∙ push_is o.signs f x t fx in
+            let right : induced (carried o.signs fs) g' y' ≡ times (times (o.signs g) (odd (position g y))) (turns (without f x)) = (λ i. induced (carried o.signs fs) (eg i) (ey i)) ∙ push_is o.signs g y p gy ∙ ap (λ v. times (times (o.signs g) (odd (position g y))) (turns v)) (sym r0) in
+            left ∙ add_common (times (o.signs f) (odd (position f x))) (times (o.signs g) (odd (position g y))) (turns (without f x)) q ∙ ap not (sym right)

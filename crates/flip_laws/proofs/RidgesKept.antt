@@ -8,7 +8,7 @@ use Rattle.std.specs.Cmp.Derive.{both_true}
 use Rattle.std.specs.Cmp.Lexicographic.{pointwise, nat_list_cmp_total}
 use Rattle.std.proofs.lemmas.List.Kept.{IsStrictlySortedBy-filter}
 use Rattle.complex_core.specs.Labels.{has, holds, without, face_cmp}
-use Rattle.complex_core.specs.Spaces.{over}
+use Rattle.complex_core.specs.Complexes.{over}
 use Rattle.complex_core.specs.Rising.{rising}
 use Rattle.complex_core.proofs.Sets.{sorted_rising, length-put_new}
 use Rattle.complex_core.proofs.Laws.{both_ways, holds_has, or_left, or_right, listed, same_sets_is, same_set_itself, listed-filter, listed-rising, listed-among, same_lists, some_listed, some_has, found, sorted_without, nat_eq_is, nat_eq_same, length-without}

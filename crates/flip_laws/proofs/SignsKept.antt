@@ -10,7 +10,7 @@ use Rattle.complex_core.proofs.Faces.{among-has}
 use Rattle.complex_core.proofs.Laws.{listed, holds_has, or_left, or_right, nat_eq_is, nat_eq_same}
 use Rattle.pseudo_test.specs.Ridges.{count}
 use Rattle.orient_test.specs.Signs.{odd}
-use Rattle.orient_test.specs.Signs.{times, place, induced, IsOrientation, Orientable}
+use Rattle.orient_test.specs.Signs.{times, position, induced, IsOrientation, Orientable}
 use Rattle.flip_laws.proofs.Exchange.{Exchange}
 use Rattle.pseudo_test.proofs.Subsets.{it_is, without_swap, holds_without, holds_through, holds_less, lacking}
 use Rattle.flip_laws.proofs.Counting.{in_a, in_b, apart, holds_a, count_kept}
@@ -20,16 +20,16 @@ use Rattle.complex_core.proofs.SubsetLists.{two, clash}
 use Rattle.complex_core.proofs.Members.{without_has, without_gone, in_without}
 use Rattle.orient_test.proofs.Chains.{cancel}
 
--- ---- the place of a label without another
+-- ---- the position of a label without another
 
-place_more : (z y : ℕ) (us vs : List ℕ) (c : ℕ) → place us y + c ≡ place vs y → place (z ∷ us) y + c ≡ place (z ∷ vs) y
+place_more : (z y : ℕ) (us vs : List ℕ) (c : ℕ) → position us y + c ≡ position vs y → position (z ∷ us) y + c ≡ position (z ∷ vs) y
 place_more z y us vs c e = elim (nat_lt z y) as (λ t. length (cond t (z ∷ filter (λ v. nat_lt v y) us) (filter (λ v. nat_lt v y) us)) + c ≡ length (cond t (z ∷ filter (λ v. nat_lt v y) vs) (filter (λ v. nat_lt v y) vs))) [
   | true ↦ omega (arith, e)
   | false ↦ e
 ]
 
-place_first : (x y : ℕ) (vs : List ℕ) → place vs y + cond (nat_lt x y) 1 0 ≡ place (x ∷ vs) y
-place_first x y vs = elim (nat_lt x y) as (λ t. place vs y + cond t 1 0 ≡ length (cond t (x ∷ filter (λ v. nat_lt v y) vs) (filter (λ v. nat_lt v y) vs))) [ true ↦ omega arith | false ↦ omega arith ]
+place_first : (x y : ℕ) (vs : List ℕ) → position vs y + cond (nat_lt x y) 1 0 ≡ position (x ∷ vs) y
+place_first x y vs = elim (nat_lt x y) as (λ t. position vs y + cond t 1 0 ≡ length (cond t (x ∷ filter (λ v. nat_lt v y) vs) (filter (λ v. nat_lt v y) vs))) [ true ↦ omega arith | false ↦ omega arith ]
 
 pub without_none : (ys : List ℕ) (x : ℕ) → has ys x ≡ false → without ys x ≡ ys
 without_none [] x f = refl
@@ -39,14 +39,14 @@ without_none (y ∷ ys) x f =
       | false ↦ λ g. ap (λ zs. y ∷ zs) (without_none ys x g)
     ] f
 
-place_without : (w : List ℕ) (x y : ℕ) → IsStrictlySortedBy nat_cmp w → has w x ≡ true → place (without w x) y + cond (nat_lt x y) 1 0 ≡ place w y
+place_without : (w : List ℕ) (x y : ℕ) → IsStrictlySortedBy nat_cmp w → has w x ≡ true → position (without w x) y + cond (nat_lt x y) 1 0 ≡ position w y
 place_without [] x y s t = clash true refl (sym t)
 place_without (z ∷ zs) x y s t =
-    elim (nat_eq z x) as (λ c. nat_eq z x ≡ c → (c || has zs x) ≡ true → place (cond (not c) (z ∷ without zs x) (without zs x)) y + cond (nat_lt x y) 1 0 ≡ place (z ∷ zs) y) [
+    elim (nat_eq z x) as (λ c. nat_eq z x ≡ c → (c || has zs x) ≡ true → position (cond (not c) (z ∷ without zs x) (without zs x)) y + cond (nat_lt x y) 1 0 ≡ position (z ∷ zs) y) [
       | true ↦ λ e _.
           let p : z ≡ x = nat_eq_is z x e in
           let out : has zs x ≡ false = ap (has zs) (sym p) ∙ sym (among-has z zs) ∙ not_among nat_cmp_total z zs (above_head nat_cmp z zs s) in
-          ap (λ us. place us y + cond (nat_lt x y) 1 0) (without_none zs x out) ∙ place_first x y zs ∙ ap (λ v. place (v ∷ zs) y) (sym p)
+          ap (λ us. position us y + cond (nat_lt x y) 1 0) (without_none zs x out) ∙ place_first x y zs ∙ ap (λ v. position (v ∷ zs) y) (sym p)
       | false ↦ λ e r. place_more z y (without zs x) zs (cond (nat_lt x y) 1 0) (place_without zs x y (above_tail nat_cmp z zs s) r)
     ] refl t
 
@@ -65,15 +65,15 @@ lt_turn x y n = grind (arith, nat_tests)
 
 -- the canonical sign of the facet of w without x
 abbrev pub canon : List ℕ → ℕ → Bool
-canon w x = odd (place w x)
+canon w x = odd (position w x)
 
 -- the canonical signs of the facets without x and without y are opposite at the ridge without both
-pub canon_opposite : (w : List ℕ) (x y : ℕ) → IsStrictlySortedBy nat_cmp w → has w x ≡ true → has w y ≡ true → (x ≢ y) → times (canon w x) (odd (place (without w x) y)) ≡ not (times (canon w y) (odd (place (without w y) x)))
+pub canon_opposite : (w : List ℕ) (x y : ℕ) → IsStrictlySortedBy nat_cmp w → has w x ≡ true → has w y ≡ true → (x ≢ y) → times (canon w x) (odd (position (without w x) y)) ≡ not (times (canon w y) (odd (position (without w y) x)))
 canon_opposite w x y s p q n =
-    (λ i. times (canon w x) (odd_more (place (without w x) y) (place w y) (nat_lt x y) (place_without w x y s p) i))
+    (λ i. times (canon w x) (odd_more (position (without w x) y) (position w y) (nat_lt x y) (place_without w x y s p) i))
     ∙ signs (canon w x) (canon w y) (nat_lt x y)
     ∙ (λ i. not (times (canon w y) (times (sym (lt_turn x y n) i) (canon w x))))
-    ∙ sym (λ i. not (times (canon w y) (odd_more (place (without w y) x) (place w x) (nat_lt y x) (place_without w y x s q) i)))
+    ∙ sym (λ i. not (times (canon w y) (odd_more (position (without w y) x) (position w x) (nat_lt y x) (place_without w y x s q) i)))
   where
     signs : (p q l : Bool) → times p (times l q) ≡ not (times q (times (not l) p))
     signs true true true = refl
@@ -201,7 +201,7 @@ module _ (fs gs : List (List ℕ)) (a b w : List ℕ) (e : Exchange fs gs a b w)
         let ra : holds (without (without w x) x0) a ≡ true = holds_less (without w x) a x0 (holds_a fs a b w e.old x t) (e.new.apart x0 e.some_b.1) in
         let r2 : count fs (without (without w x) x0) ≡ 2 = ridge_two fs a b w (without (without w x) x0) e.old (record { facet = without w x; label = x0; there = e.old.was x t; used = f0; is = refl }) ra in
         let p : induced s (without w x) x0 ≡ not (induced s (without w x0) x) = o.opposite (without w x) (without w x0) x0 x (e.old.was x t) (e.old.was x0 e.some_b.1) f0 g0 (apart_facets x x0 wx n) (without_swap w x x0 e.old.labels) r2 in
-        tied (s (without w x)) (canon w x) (s (without w x0)) (canon w x0) (odd (place (without w x) x0)) (odd (place (without w x0) x)) p (canon_opposite w x x0 e.old.labels wx w0 n)
+        tied (s (without w x)) (canon w x) (s (without w x0)) (canon w x0) (odd (position (without w x) x0)) (odd (position (without w x0) x)) p (canon_opposite w x x0 e.old.labels wx w0 n)
   ]
 
   sign_old : (x : ℕ) → has b x ≡ true → s (without w x) ≡ times c0 (canon w x)
@@ -251,10 +251,10 @@ module _ (fs gs : List (List ℕ)) (a b w : List ℕ) (e : Exchange fs gs a b w)
           let rh : without f x ≡ without (without w y) q = r ∙ ap (λ m. without m y) is ∙ without_swap w q y e.old.labels in
           let fh : f ≢ without w y = λ p. clash {P = ⊥} (holds f a) (ap (λ m. holds m a) p ∙ holds_a fs a b w e.old y yb) (e.new.free f t) in
           let opp : induced s f x ≡ not (induced s (without w y) q) = o.opposite f (without w y) x q (stayed f t fb) (e.old.was y yb) fx hq fh rh (two_before f x t fb fx n) in
-          let new : induced new_signs g y ≡ times (not (times c0 (canon w q))) (odd (place (without w q) y)) = ap (λ m. induced new_signs m y) is ∙ ap (λ v. times v (odd (place (without w q) y))) (sign_new q qa) in
-          let old : induced s (without w y) q ≡ times (times c0 (canon w y)) (odd (place (without w y) q)) = ap (λ v. times v (odd (place (without w y) q))) (sign_old y yb) in
-          let same : times (not (times c0 (canon w q))) (odd (place (without w q) y)) ≡ times (times c0 (canon w y)) (odd (place (without w y) q)) = one_new c0 (canon w q) (canon w y) (odd (place (without w q) y)) (odd (place (without w y) q)) (canon_opposite w q y e.old.labels wq wy qy) in
-          ap (λ v. times v (odd (place f x))) (sign_same f fb) ∙ opp ∙ ap not (old ∙ sym same ∙ sym new)
+          let new : induced new_signs g y ≡ times (not (times c0 (canon w q))) (odd (position (without w q) y)) = ap (λ m. induced new_signs m y) is ∙ ap (λ v. times v (odd (position (without w q) y))) (sign_new q qa) in
+          let old : induced s (without w y) q ≡ times (times c0 (canon w y)) (odd (position (without w y) q)) = ap (λ v. times v (odd (position (without w y) q))) (sign_old y yb) in
+          let same : times (not (times c0 (canon w q))) (odd (position (without w q) y)) ≡ times (times c0 (canon w y)) (odd (position (without w y) q)) = one_new c0 (canon w q) (canon w y) (odd (position (without w q) y)) (odd (position (without w y) q)) (canon_opposite w q y e.old.labels wq wy qy) in
+          ap (λ v. times v (odd (position f x))) (sign_same f fb) ∙ opp ∙ ap not (old ∙ sym same ∙ sym new)
 
   -- two added facets
   added : (f g : List ℕ) (x y : ℕ) → listed gs f ≡ true → listed gs g ≡ true → has f x ≡ true → has g y ≡ true → holds f b ≡ true → holds g b ≡ true → (f ≢ g) → without f x ≡ without g y → induced new_signs f x ≡ not (induced new_signs g y)
@@ -274,9 +274,9 @@ module _ (fs gs : List (List ℕ)) (a b w : List ℕ) (e : Exchange fs gs a b w)
           let gone_p : has (without g y) p ≡ false = false_from_ne_true (has (without g y) p) (λ m. clash {P = ⊥} (has f p) (without_has f x p (ap (λ v. has v p) r ∙ m)) (ap (λ v. has v p) fp ∙ without_gone w p)) in
           let qx : q ≡ x = it_is f x q qf gone_q in
           let py : p ≡ y = it_is g y p pg gone_p in
-          let left : induced new_signs f x ≡ times (not (times c0 (canon w p))) (odd (place (without w p) q)) = ap (λ v. induced new_signs f v) (sym qx) ∙ ap (λ m. induced new_signs m q) fp ∙ ap (λ v. times v (odd (place (without w p) q))) (sign_new p pa) in
-          let right : induced new_signs g y ≡ times (not (times c0 (canon w q))) (odd (place (without w q) p)) = ap (λ v. induced new_signs g v) (sym py) ∙ ap (λ m. induced new_signs m p) gq ∙ ap (λ v. times v (odd (place (without w q) p))) (sign_new q qa) in
-          left ∙ both_new c0 (canon w p) (canon w q) (odd (place (without w p) q)) (odd (place (without w q) p)) (canon_opposite w p q e.old.labels wp wq pq) ∙ ap not (sym right)
+          let left : induced new_signs f x ≡ times (not (times c0 (canon w p))) (odd (position (without w p) q)) = ap (λ v. induced new_signs f v) (sym qx) ∙ ap (λ m. induced new_signs m q) fp ∙ ap (λ v. times v (odd (position (without w p) q))) (sign_new p pa) in
+          let right : induced new_signs g y ≡ times (not (times c0 (canon w q))) (odd (position (without w q) p)) = ap (λ v. induced new_signs g v) (sym py) ∙ ap (λ m. induced new_signs m p) gq ∙ ap (λ v. times v (odd (position (without w q) p))) (sign_new q qa) in
+          left ∙ both_new c0 (canon w p) (canon w q) (odd (position (without w p) q)) (odd (position (without w q) p)) (canon_opposite w p q e.old.labels wp wq pq) ∙ ap not (sym right)
 
   new_orientation : IsOrientation gs new_signs
   new_orientation = record {
@@ -288,9 +288,9 @@ module _ (fs gs : List (List ℕ)) (a b w : List ℕ) (e : Exchange fs gs a b w)
       | inr fb ↦ elim (two (holds g b)) [
         | inl gb ↦ mixed f g x y t u fx gy fb gb r c
         | inr gb ↦
-            ap (λ v. times v (odd (place f x))) (sign_same f fb)
+            ap (λ v. times v (odd (position f x))) (sign_same f fb)
             ∙ o.opposite f g x y (stayed f t fb) (stayed g u gb) fx gy n r (two_before f x t fb fx c)
-            ∙ ap (λ v. not (times v (odd (place g y)))) (sym (sign_same g gb))
+            ∙ ap (λ v. not (times v (odd (position g y)))) (sym (sign_same g gb))
       ]
     ];
   }

@@ -8,7 +8,7 @@ use Rattle.std.proofs.lemmas.Int.{ints}
 use lib.IntN.{ℤ, pos, negsuc, ◌+ℤ◌}
 use Rattle.complex_core.specs.Labels.{has, holds, face_cmp}
 use Rattle.complex_core.specs.Rising.{rising}
-use Rattle.complex_core.specs.Spaces.{is_held}
+use Rattle.complex_core.specs.Complexes.{is_held}
 use Rattle.complex_core.proofs.Sets.{sorted_rising, sorted_none}
 use Rattle.complex_core.proofs.Laws.{both_ways, holds_has, holds_each, or_left, or_right, listed, same_sets_is, same_set_itself, listed-rising, same_labels, nat_eq_same}
 use Rattle.face_counts.specs.Faces.{subsets, parts, is_some, faces}

@@ -8,8 +8,8 @@ use Rattle.complex_core.specs.Rising.{rising}
 use Rattle.complex_core.proofs.Sets.{sorted_rising}
 use Rattle.complex_core.proofs.Laws.{holds_has, listed, same_sets_is, same_set_itself, listed-rising, found, some_has, sorted_without, length-without}
 use Rattle.pseudo_test.specs.Ridges.{Closed}
-use Rattle.pseudo_test.specs.Chains.{Strong}
-use Rattle.orient_test.specs.Signs.{odd, times, place, induced, IsOrientation}
+use Rattle.pseudo_test.specs.Chains.{StronglyConnected}
+use Rattle.orient_test.specs.Signs.{odd, times, position, induced, IsOrientation}
 use Rattle.flip_laws.proofs.Exchange.{Half}
 use Rattle.pseudo_test.proofs.Subsets.{it_is}
 use Rattle.flip_laws.proofs.RidgesKept.{ridge_two, listed-map}
@@ -48,7 +48,7 @@ module _ (w : List ℕ) (s : IsStrictlySortedBy nat_cmp w) where
   pub closed_of : Closed (simplex_boundary w)
   closed_of = record { two = λ r g. ridge_two (simplex_boundary w) [] w w r (half_of w s) g refl }
 
-  pub strong_of : Strong (simplex_boundary w)
+  pub strong_of : StronglyConnected (simplex_boundary w)
   strong_of = record {
     joined = λ f g t u.
         let p : (x : ℕ) × (has w x ≡ true) × (f ≡ without w x) = side_of w f t in
@@ -76,6 +76,6 @@ module _ (w : List ℕ) (s : IsStrictlySortedBy nat_cmp w) where
           let gone_p : has (without g y) p ≡ false = false_from_ne_true (has (without g y) p) (λ m. clash {P = ⊥} (has f p) (without_has f x p (ap (λ v. has v p) r ∙ m)) (ap (λ v. has v p) fp ∙ without_gone w p)) in
           let qx : q ≡ x = it_is f x q qf gone_q in
           let py : p ≡ y = it_is g y p pg gone_p in
-          let left : induced signs_of f x ≡ times (canon w p) (odd (place (without w p) q)) = ap (λ v. induced signs_of f v) (sym qx) ∙ ap (λ m. induced signs_of m q) fp ∙ ap (λ v. times (canon w v) (odd (place (without w p) q))) (lost_without w p wp) in
-          let right : induced signs_of g y ≡ times (canon w q) (odd (place (without w q) p)) = ap (λ v. induced signs_of g v) (sym py) ∙ ap (λ m. induced signs_of m p) gq ∙ ap (λ v. times (canon w v) (odd (place (without w q) p))) (lost_without w q wq) in
+          let left : induced signs_of f x ≡ times (canon w p) (odd (position (without w p) q)) = ap (λ v. induced signs_of f v) (sym qx) ∙ ap (λ m. induced signs_of m q) fp ∙ ap (λ v. times (canon w v) (odd (position (without w p) q))) (lost_without w p wp) in
+          let right : induced signs_of g y ≡ times (canon w q) (odd (position (without w q) p)) = ap (λ v. induced signs_of g v) (sym py) ∙ ap (λ m. induced signs_of m p) gq ∙ ap (λ v. times (canon w v) (odd (position (without w q) p))) (lost_without w q wq) in
           left ∙ canon_opposite w p q s wp wq pq ∙ ap not (sym right)

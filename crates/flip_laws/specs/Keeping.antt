@@ -3,10 +3,10 @@ use Rattle.std.specs.Prelude.{◌≡◌, ◌↔◌, ℕ, List, nat_eq, filter, m
 use Rattle.std.specs.List.{AllByRecursion, flat_map}
 use Rattle.complex_core.specs.Labels.{without, face_cmp}
 use Rattle.complex_core.specs.Rising.{rising}
-use Rattle.complex_core.specs.Spaces.{Space, IsComplex}
+use Rattle.complex_core.specs.Complexes.{ComplexView, IsComplex}
 use Rattle.face_counts.specs.Eulers.{euler}
 use Rattle.pseudo_test.specs.Ridges.{count, Closed, Thin}
-use Rattle.pseudo_test.specs.Chains.{Strong}
+use Rattle.pseudo_test.specs.Chains.{StronglyConnected}
 use Rattle.orient_test.specs.Signs.{Orientable}
 use Rattle.flip_rules.specs.declared.flip.Flip.{Flip}
 use Rattle.flip_rules.specs.Flips.{OfFaces, replay}
@@ -20,15 +20,15 @@ abbrev pub boundary : List (List ℕ) → List (List ℕ)
 boundary facets = filter (λ r. nat_eq (count facets r) 1) (ridges facets)
 
 -- the one complex has each of these facts exactly where the other has it
-pub record Keeps (k l : Space) : Type 0 where
+pub record Keeps (k l : ComplexView) : Type 0 where
   pub dim : k.dim ≡ l.dim
   pub euler : euler k.facets ≡ euler l.facets
   pub closed : Closed k.facets ↔ Closed l.facets
   pub thin : Thin k.facets ↔ Thin l.facets
   pub boundary : boundary k.facets ≡ boundary l.facets
-  pub strong : Strong k.facets ↔ Strong l.facets
+  pub strong : StronglyConnected k.facets ↔ StronglyConnected l.facets
   pub orientable : Orientable k.facets ↔ Orientable l.facets
 
 -- flips one after another lead from a complex to a complex, and keep these facts
 abbrev pub ReplayKeeps : Type 0
-ReplayKeeps = (k l : Space) (flips : List Flip) → IsComplex k → AllByRecursion OfFaces flips → replay k flips ≡ Some l → IsComplex l × Keeps k l
+ReplayKeeps = (k l : ComplexView) (flips : List Flip) → IsComplex k → AllByRecursion OfFaces flips → replay k flips ≡ Some l → IsComplex l × Keeps k l

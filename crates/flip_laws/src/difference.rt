@@ -1,6 +1,6 @@
 // A fact that flips keep and in which two complexes differ.
 ghost use Rattle.std.specs.Prelude.{◌↔◌, IfOk, IfSome, IsTrue, MatchOption};
-ghost use Rattle.complex_core.specs.Spaces.{IsComplex};
+ghost use Rattle.complex_core.specs.Complexes.{IsComplex};
 ghost use Rattle.orient_test.specs.Signs.{Orientable};
 ghost use Rattle.flip_laws.specs.Differences.{Alike, IsDifference, LeadsToImage, ImageIsAlike};
 

@@ -1,7 +1,7 @@
 // The first fact of a sphere that a complex lacks.
 ghost use Rattle.std.specs.Prelude.{◌≡◌, IfOk, IfSome, MatchOption};
 ghost use lib.IntN.{pos, ◌+ℤ◌};
-ghost use Rattle.complex_core.specs.Spaces.{IsComplex};
+ghost use Rattle.complex_core.specs.Complexes.{IsComplex};
 ghost use Rattle.face_counts.specs.Eulers.{power};
 ghost use Rattle.flip_laws.specs.Obstacles.{LooksLikeSphere, IsObstacle, NeverReaches, BoundaryLooks, ReachingLooks};
 

@@ -9,7 +9,7 @@ use Rattle.std.specs.Cmp.Derive.{both_true}
 use Rattle.std.specs.Cmp.Lexicographic.{nat_list_cmp_total}
 use Rattle.complex_core.specs.Labels.{has}
 use Rattle.complex_core.specs.Rising.{put, rising}
-use Rattle.complex_core.specs.Spaces.{Space}
+use Rattle.complex_core.specs.Complexes.{ComplexView}
 use Rattle.complex_core.specs.Maps.{IsMap, Differ, pair_cmp, takes, turned, at, face_image, image, takes_all, renamed}
 use Rattle.complex_core.proofs.Sets.{above_tail, sorted_rising}
 use Rattle.complex_core.proofs.Images.{reaches_at}
@@ -97,7 +97,7 @@ set_back m f d s t = same_labels (face_image (map_back m) (face_image m f)) f (i
 
 -- ---- complexes there and back
 
-module _ (m : List (ℕ × ℕ)) (k : Space) (r : Renames m k) where
+module _ (m : List (ℕ × ℕ)) (k : ComplexView) (r : Renames m k) where
   one_back : (f : List ℕ) → listed k.facets f ≡ true → face_image (map_back m) (face_image m f) ≡ f
   one_back f t = set_back m f r.is_map.differ (facet_rises k.dim k.facets f r.complex.pure t) (taken_set m r.is_map.differ k.facets r.taken f t)
 
@@ -124,7 +124,7 @@ module _ (m : List (ℕ × ℕ)) (k : Space) (r : Renames m k) where
   renames_back = record { is_map = back_is_map m r.is_map; complex = renamed_is_complex m k r; taken = all_back }
 
 -- complexes that become the same one are the same
-pub one_complex : (m : List (ℕ × ℕ)) (k l : Space) → Renames m k → Renames m l → renamed k m ≡ renamed l m → k ≡ l
+pub one_complex : (m : List (ℕ × ℕ)) (k l : ComplexView) → Renames m k → Renames m l → renamed k m ≡ renamed l m → k ≡ l
 one_complex m k l rk rl e = sym (renamed_back m k rk) ∙ ap (λ n. renamed n (map_back m)) e ∙ renamed_back m l rl
 
 -- ---- flips there and back

@@ -6,7 +6,7 @@ use Rattle.std.specs.declared.cmp.Ordering.TheVariants.{Less}
 use Rattle.std.specs.Cmp.{first_so, second_so}
 use Rattle.std.proofs.lemmas.List.{length-map}
 use Rattle.complex_core.specs.Labels.{IsFace, IsRising}
-use Rattle.complex_core.specs.Spaces.{Space, IsComplex}
+use Rattle.complex_core.specs.Complexes.{ComplexView, IsComplex}
 use Rattle.complex_core.specs.Maps.{IsMap, ArePositive, takes, at, face_image, face_images, renamed}
 use Rattle.complex_core.proofs.Sets.{above_cons, above_tail, each_rising}
 use Rattle.complex_core.proofs.Faces.{cmp_less}
@@ -43,5 +43,5 @@ sizes_are_kept m f h faces t = record {
   second = length-image m h.differ f.b (above_tail nat_cmp 0 f.b faces.second.rising) (takes_second m f t);
 }
 
-pub renamed_is_complex : (m : List (ℕ × ℕ)) (k : Space) → Renames m k → IsComplex (renamed k m)
+pub renamed_is_complex : (m : List (ℕ × ℕ)) (k : ComplexView) → Renames m k → IsComplex (renamed k m)
 renamed_is_complex m k r = sorted_complex k.dim (face_images m k.facets) (renamed k m).facets refl r.complex.low (omega (arith, r.complex.some, length-map k.facets (face_image m))) (facet_images k.dim m k.facets r.is_map r.complex.pure r.taken)

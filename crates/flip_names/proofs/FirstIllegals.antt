@@ -4,7 +4,7 @@ use Rattle.std.specs.List.{AllByRecursion}
 use Rattle.std.specs.Cmp.{first_so, second_so}
 use Rattle.std.proofs.lemmas.List.{map-append, length-map}
 use Rattle.std.proofs.lemmas.List.Folds.{list_all-append}
-use Rattle.complex_core.specs.Spaces.{Space}
+use Rattle.complex_core.specs.Complexes.{ComplexView}
 use Rattle.complex_core.specs.Maps.{renamed}
 use Rattle.flip_rules.specs.declared.flip.Flip.{Flip}
 use Rattle.flip_rules.specs.declared.flip.Illegal.{Illegal}
@@ -13,7 +13,7 @@ use Rattle.flip_rules.specs.Certificates.{IsFirstIllegal}
 use Rattle.flip_rules.proofs.Replays.{decides_replay, never_both, first_is_one}
 use Rattle.flip_names.specs.Names.{named_flip, named_flips, takes_flip, takes_flips}
 use Rattle.flip_names.specs.Laws.{RenamesAll, FirstIllegalIsKept}
-use Rattle.flip_names.proofs.Flips.{why_commutes}
+use Rattle.flip_names.proofs.Flips.{broken_rule_commutes}
 use Rattle.flip_names.proofs.Replays.{replay_stays_taken, leads_there}
 
 each_front : {X : Type 0} (P : X → Type 0) (xs ys : List X) → AllByRecursion P (xs ++ ys) → AllByRecursion P xs
@@ -25,12 +25,12 @@ each_behind P [] ys h = h
 each_behind P (x ∷ xs) ys h = each_behind P xs ys h.1
 
 -- what holds of flips holds of those before one of them, and of this one
-record Parts (m : List (ℕ × ℕ)) (k : Space) (before : List Flip) (f : Flip) : Type 0 where
+record Parts (m : List (ℕ × ℕ)) (k : ComplexView) (before : List Flip) (f : Flip) : Type 0 where
   front : RenamesAll m k before
   faces : OfFaces f
   taken : takes_flip m f ≡ true
 
-parts : (m : List (ℕ × ℕ)) (k : Space) (before : List Flip) (f : Flip) (after : List Flip) → RenamesAll m k (before ++ f ∷ after) → Parts m k before f
+parts : (m : List (ℕ × ℕ)) (k : ComplexView) (before : List Flip) (f : Flip) (after : List Flip) → RenamesAll m k (before ++ f ∷ after) → Parts m k before f
 parts m k before f after r =
     let t : (takes_flips m before && takes_flips m (f ∷ after)) ≡ true = sym (list_all-append (takes_flip m) before (f ∷ after)) ∙ r.taken in
     let u : takes_flips m (f ∷ after) ≡ true = second_so (takes_flips m before) (takes_flips m (f ∷ after)) t in
@@ -44,7 +44,7 @@ parts m k before f after r =
       taken = first_so (takes_flip m f) (takes_flips m after) u;
     }
 
-named_first : (m : List (ℕ × ℕ)) (k : Space) (flips : List Flip) (n : ℕ) (e : Illegal) → RenamesAll m k flips → IsFirstIllegal k flips n e → IsFirstIllegal (renamed k m) (named_flips m flips) n e
+named_first : (m : List (ℕ × ℕ)) (k : ComplexView) (flips : List Flip) (n : ℕ) (e : Illegal) → RenamesAll m k flips → IsFirstIllegal k flips n e → IsFirstIllegal (renamed k m) (named_flips m flips) n e
 named_first m k flips n e r i =
     let P : List Flip → Type 0 = λ fs. RenamesAll m k fs in
     let p : Parts m k i.before i.flip = parts m k i.before i.flip i.after (subst P i.are r) in
@@ -56,7 +56,7 @@ named_first m k flips n e r i =
       counted = i.counted ∙ ap (λ c. c + 1) (sym (length-map i.before (named_flip m)));
       there = renamed i.there m;
       replays = leads_there m k i.there i.before p.front i.replays;
-      breaks = why_commutes m i.there i.flip (replay_stays_taken m k i.there i.before p.front i.replays) p.faces p.taken ∙ i.breaks;
+      breaks = broken_rule_commutes m i.there i.flip (replay_stays_taken m k i.there i.before p.front i.replays) p.faces p.taken ∙ i.breaks;
     }
 
 pub first_illegal_is_kept : FirstIllegalIsKept

@@ -9,18 +9,18 @@ use Rattle.std.proofs.lemmas.List.{map-append}
 use Rattle.std.proofs.lemmas.List.Kept.{IsStrictlySortedBy-filter}
 use Rattle.complex_core.specs.Labels.{has, holds, without, face_cmp}
 use Rattle.complex_core.specs.Rising.{rising}
-use Rattle.complex_core.specs.Spaces.{Space, IsFacet, over, beside, is_held}
+use Rattle.complex_core.specs.Complexes.{ComplexView, IsFacet, over, beside, is_held}
 use Rattle.complex_core.specs.Maps.{takes, face_image, image, takes_all, renamed}
 use Rattle.complex_core.proofs.Sets.{above_tail, sorted_rising}
 use Rattle.complex_core.proofs.Laws.{both_ways, each_listed, listed, listed-append, listed-filter, listed-rising, passes_listed, same_lists, same_sets_is, sorted_union}
 use Rattle.complex_core.proofs.SubsetLists.{two, clash, map_back}
 use Rattle.flip_rules.specs.declared.flip.Flip.{Flip}
-use Rattle.flip_rules.specs.Flips.{sides, has_shape, link_is, why, flipped}
+use Rattle.flip_rules.specs.Flips.{join_boundary, has_shape, link_is, broken_rule, flipped}
 use Rattle.flip_rules.proofs.Legal.{verdict}
 use Rattle.flip_rules.proofs.Links.{side, side_of, listed-flipped, same_lists_is, same_lists_from}
 use Rattle.flip_names.specs.Names.{takes_flip}
-use Rattle.flip_names.specs.Laws.{Renames, WhyCommutes, FlipCommutes, FlipStaysTaken}
-use Rattle.flip_names.proofs.Images.{Taken, taken_side, taken_set, one_set, length-image, common-image, sides-image, listed-sides_image, image-rising, listed_image, listed-map_rising, listed-over_image, listed-beside_image, held-image}
+use Rattle.flip_names.specs.Laws.{Renames, BrokenRuleCommutes, FlipCommutes, FlipStaysTaken}
+use Rattle.flip_names.proofs.Images.{Taken, taken_side, taken_set, one_set, length-image, common-image, join_boundary-image, listed-sides_image, image-rising, listed_image, listed-map_rising, listed-over_image, listed-beside_image, held-image}
 
 -- the labels of a facet rise
 pub facet_rises : (d : ℕ) (fs : List (List ℕ)) (f : List ℕ) → AllByRecursion (IsFacet d) fs → listed fs f ≡ true → IsStrictlySortedBy nat_cmp f
@@ -43,7 +43,7 @@ takes_second m f t = second_so (list_all (takes m) f.a) (list_all (takes m) f.b)
 shape-image : (d : ℕ) (a b a' b' : List ℕ) → length a' ≡ length a → length b' ≡ length b → list_any (λ x. has b' x) a' ≡ list_any (λ x. has b x) a → has_shape d a' b' ≡ has_shape d a b
 shape-image d a b a' b' p q r = λ i. not (nat_eq (p i) 0) && (not (nat_eq (q i) 0) && (not (r i) && nat_eq (p i + q i) (d + 2)))
 
-module _ (m : List (ℕ × ℕ)) (k : Space) (r : Renames m k) (a b : List ℕ) (ta : Taken m a) (tb : Taken m b) where
+module _ (m : List (ℕ × ℕ)) (k : ComplexView) (r : Renames m k) (a b : List ℕ) (ta : Taken m a) (tb : Taken m b) where
   -- a facet that contains A is a side where its image is one
   part_of : (f : List ℕ) (gs hs : List (List ℕ)) → IsStrictlySortedBy nat_cmp f → Taken m f → ((g : List ℕ) → listed hs g ≡ true → IsStrictlySortedBy nat_cmp g) → ((g : List ℕ) → listed hs g ≡ true → Taken m g) → image m gs ≡ image m hs → listed gs f ≡ true → listed hs f ≡ true
   part_of f gs hs s tf sorted taken e t =
@@ -60,13 +60,13 @@ module _ (m : List (ℕ × ℕ)) (k : Space) (r : Renames m k) (a b : List ℕ) 
   over_taken : (f : List ℕ) → listed (over k.facets a) f ≡ true → Taken m f
   over_taken f t = taken_set m r.is_map.differ k.facets r.taken f (over_listed f t)
 
-  side_sorted : IsStrictlySortedBy nat_cmp a → (f : List ℕ) → listed (sides a b) f ≡ true → IsStrictlySortedBy nat_cmp f
+  side_sorted : IsStrictlySortedBy nat_cmp a → (f : List ℕ) → listed (join_boundary a b) f ≡ true → IsStrictlySortedBy nat_cmp f
   side_sorted s f t =
       let p : (x : ℕ) × (has b x ≡ true) × (f ≡ side a b x) = side_of a b f t in
       let P : List ℕ → Type 0 = λ g. IsStrictlySortedBy nat_cmp g in
       subst P (sym p.2) (sorted_union a (without b p.0) s)
 
-  sides_taken : (f : List ℕ) → listed (sides a b) f ≡ true → Taken m f
+  sides_taken : (f : List ℕ) → listed (join_boundary a b) f ≡ true → Taken m f
   sides_taken f t =
       let p : (x : ℕ) × (has b x ≡ true) × (f ≡ side a b x) = side_of a b f t in
       let P : List ℕ → Type 0 = λ g. Taken m g in
@@ -82,24 +82,24 @@ module _ (m : List (ℕ × ℕ)) (k : Space) (r : Renames m k) (a b : List ℕ) 
   link-image : IsStrictlySortedBy nat_cmp a → link_is (image m k.facets) (face_image m a) (face_image m b) ≡ link_is k.facets a b
   link-image s = both_ways (link_is (image m k.facets) (face_image m a) (face_image m b)) (link_is k.facets a b)
       (λ t.
-      let e : image m (over k.facets a) ≡ image m (sides a b) =
-      sym over-image ∙ same_lists_is (over (image m k.facets) (face_image m a)) (rising face_cmp (sides (face_image m a) (face_image m b))) t ∙ sides-image m r.is_map.differ a b tb in
-      same_lists_from (over k.facets a) (rising face_cmp (sides a b)) (
-      same_lists (over k.facets a) (rising face_cmp (sides a b))
+      let e : image m (over k.facets a) ≡ image m (join_boundary a b) =
+      sym over-image ∙ same_lists_is (over (image m k.facets) (face_image m a)) (rising face_cmp (join_boundary (face_image m a) (face_image m b))) t ∙ join_boundary-image m r.is_map.differ a b tb in
+      same_lists_from (over k.facets a) (rising face_cmp (join_boundary a b)) (
+      same_lists (over k.facets a) (rising face_cmp (join_boundary a b))
       (IsStrictlySortedBy-filter face_cmp (λ f. holds f a) k.facets r.complex.rising)
-      (sorted_rising nat_list_cmp_total (sides a b))
-      (λ f. both_ways (listed (over k.facets a) f) (listed (sides a b) f)
-      (λ u. part_of f (over k.facets a) (sides a b) (over_sorted f u) (over_taken f u) (side_sorted s) sides_taken e u)
-      (λ u. part_of f (sides a b) (over k.facets a) (side_sorted s f u) (sides_taken f u) over_sorted over_taken (sym e) u)
-      ∙ sym (listed-rising (sides a b) f))
+      (sorted_rising nat_list_cmp_total (join_boundary a b))
+      (λ f. both_ways (listed (over k.facets a) f) (listed (join_boundary a b) f)
+      (λ u. part_of f (over k.facets a) (join_boundary a b) (over_sorted f u) (over_taken f u) (side_sorted s) sides_taken e u)
+      (λ u. part_of f (join_boundary a b) (over k.facets a) (side_sorted s f u) (sides_taken f u) over_sorted over_taken (sym e) u)
+      ∙ sym (listed-rising (join_boundary a b) f))
       ))
       (λ t.
-      let e : over k.facets a ≡ rising face_cmp (sides a b) = same_lists_is (over k.facets a) (rising face_cmp (sides a b)) t in
-      same_lists_from (over (image m k.facets) (face_image m a)) (rising face_cmp (sides (face_image m a) (face_image m b)))
-      (over-image ∙ ap (image m) e ∙ image-rising m (sides a b) ∙ sym (sides-image m r.is_map.differ a b tb)))
+      let e : over k.facets a ≡ rising face_cmp (join_boundary a b) = same_lists_is (over k.facets a) (rising face_cmp (join_boundary a b)) t in
+      same_lists_from (over (image m k.facets) (face_image m a)) (rising face_cmp (join_boundary (face_image m a) (face_image m b)))
+      (over-image ∙ ap (image m) e ∙ image-rising m (join_boundary a b) ∙ sym (join_boundary-image m r.is_map.differ a b tb)))
 
-  why-image : IsStrictlySortedBy nat_cmp a → IsStrictlySortedBy nat_cmp b → why (renamed k m) (face_image m a) (face_image m b) ≡ why k a b
-  why-image sa sb =
+  broken_rule-image : IsStrictlySortedBy nat_cmp a → IsStrictlySortedBy nat_cmp b → broken_rule (renamed k m) (face_image m a) (face_image m b) ≡ broken_rule k a b
+  broken_rule-image sa sb =
       let d = r.is_map.differ in
       let s : has_shape k.dim (face_image m a) (face_image m b) ≡ has_shape k.dim a b = shape-image k.dim a b (face_image m a) (face_image m b) (length-image m d a sa ta) (length-image m d b sb tb) (common-image m d a b ta tb) in
       let h : is_held (image m k.facets) (face_image m a) ≡ is_held k.facets a = held-image m d k.facets r.taken a ta in
@@ -112,24 +112,24 @@ module _ (m : List (ℕ × ℕ)) (k : Space) (r : Renames m k) (a b : List ℕ) 
   listed-flip_image : (g : List ℕ) → listed (image m (flipped k a b).facets) g ≡ listed (flipped (renamed k m) (face_image m a) (face_image m b)).facets g
   listed-flip_image g =
       listed-rising (map (face_image m) (flipped k a b).facets) g
-      ∙ listed-map_rising m (beside k.facets a ++ sides b a) g
-      ∙ ap (λ fs. listed fs g) (map-append (face_image m) (beside k.facets a) (sides b a))
-      ∙ listed-append (map (face_image m) (beside k.facets a)) (map (face_image m) (sides b a)) g
+      ∙ listed-map_rising m (beside k.facets a ++ join_boundary b a) g
+      ∙ ap (λ fs. listed fs g) (map-append (face_image m) (beside k.facets a) (join_boundary b a))
+      ∙ listed-append (map (face_image m) (beside k.facets a)) (map (face_image m) (join_boundary b a)) g
       ∙ (λ i. sym (listed-beside_image m r.is_map.differ k.facets r.taken a g ta) i || sym (listed-sides_image m r.is_map.differ b a g ta) i)
-      ∙ sym (listed-append (beside (image m k.facets) (face_image m a)) (sides (face_image m b) (face_image m a)) g)
-      ∙ sym (listed-rising (beside (image m k.facets) (face_image m a) ++ sides (face_image m b) (face_image m a)) g)
+      ∙ sym (listed-append (beside (image m k.facets) (face_image m a)) (join_boundary (face_image m b) (face_image m a)) g)
+      ∙ sym (listed-rising (beside (image m k.facets) (face_image m a) ++ join_boundary (face_image m b) (face_image m a)) g)
 
   flip-image : renamed (flipped k a b) m ≡ flipped (renamed k m) (face_image m a) (face_image m b)
   flip-image =
       let e : image m (flipped k a b).facets ≡ (flipped (renamed k m) (face_image m a) (face_image m b)).facets =
       same_lists (image m (flipped k a b).facets) (flipped (renamed k m) (face_image m a) (face_image m b)).facets
       (sorted_rising nat_list_cmp_total (map (face_image m) (flipped k a b).facets))
-      (sorted_rising nat_list_cmp_total (beside (image m k.facets) (face_image m a) ++ sides (face_image m b) (face_image m a)))
+      (sorted_rising nat_list_cmp_total (beside (image m k.facets) (face_image m a) ++ join_boundary (face_image m b) (face_image m a)))
       listed-flip_image in
       λ i. record { dim = k.dim; facets = e i }
 
-pub why_commutes : WhyCommutes
-why_commutes m k f r faces t = why-image m k r f.a f.b (takes_first m f t) (takes_second m f t) (above_tail nat_cmp 0 f.a faces.first.rising) (above_tail nat_cmp 0 f.b faces.second.rising)
+pub broken_rule_commutes : BrokenRuleCommutes
+broken_rule_commutes m k f r faces t = broken_rule-image m k r f.a f.b (takes_first m f t) (takes_second m f t) (above_tail nat_cmp 0 f.a faces.first.rising) (above_tail nat_cmp 0 f.b faces.second.rising)
 
 pub flip_commutes : FlipCommutes
 flip_commutes m k f r t = flip-image m k r f.a f.b (takes_first m f t) (takes_second m f t)
@@ -137,13 +137,13 @@ flip_commutes m k f r t = flip-image m k r f.a f.b (takes_first m f t) (takes_se
 pub flip_stays_taken : FlipStaysTaken
 flip_stays_taken m k f all t = each_listed (λ g. list_all (takes m) g) (flipped k f.a f.b).facets (λ g u. which g (sym (listed-flipped k f.a f.b g) ∙ u))
   where
-    which : (g : List ℕ) → ((listed k.facets g && not (holds g f.a)) || listed (sides f.b f.a) g) ≡ true → Taken m g
-    which g u = elim (two (listed (sides f.b f.a) g)) [
+    which : (g : List ℕ) → ((listed k.facets g && not (holds g f.a)) || listed (join_boundary f.b f.a) g) ≡ true → Taken m g
+    which g u = elim (two (listed (join_boundary f.b f.a) g)) [
       | inl e ↦
           let p : (x : ℕ) × (has f.a x ≡ true) × (g ≡ side f.b f.a x) = side_of f.b f.a g e in
           let P : List ℕ → Type 0 = λ h. Taken m h in
           subst P (sym p.2) (taken_side m f.b f.a p.0 (takes_second m f t) (takes_first m f t))
-      | inr e ↦ passes k.facets g all (first_so (listed k.facets g) (not (holds g f.a)) (front (listed k.facets g && not (holds g f.a)) (listed (sides f.b f.a) g) u e))
+      | inr e ↦ passes k.facets g all (first_so (listed k.facets g) (not (holds g f.a)) (front (listed k.facets g && not (holds g f.a)) (listed (join_boundary f.b f.a) g) u e))
     ]
       where
         front : (c e : Bool) → (c || e) ≡ true → e ≡ false → c ≡ true

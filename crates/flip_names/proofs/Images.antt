@@ -9,7 +9,7 @@ use Rattle.std.specs.Cmp.Lexicographic.{pointwise, nat_list_cmp_total}
 use Rattle.std.proofs.lemmas.Cmp.{nat_cmp_total}
 use Rattle.complex_core.specs.Labels.{has, holds, without, union, face_cmp}
 use Rattle.complex_core.specs.Rising.{rising}
-use Rattle.complex_core.specs.Spaces.{over, beside, is_held}
+use Rattle.complex_core.specs.Complexes.{over, beside, is_held}
 use Rattle.complex_core.specs.Maps.{Differ, takes, at, face_image, image, takes_all}
 use Rattle.complex_core.proofs.Sets.{above_head, above_tail, any-rising, not_among, sorted_rising, length-put_new}
 use Rattle.complex_core.proofs.Faces.{among-has, equal_cmp}
@@ -17,8 +17,8 @@ use Rattle.complex_core.proofs.Images.{injective}
 use Rattle.complex_core.proofs.Laws.{both_ways, each_has, has-union, holds_has, holds_each, listed, listed-filter, listed-rising, nat_eq_same, or_left, or_right, passes_listed, same_labels, same_lists, same_set_itself, some_has, sorted_union, sorted_without}
 use Rattle.complex_core.proofs.Sorting.{exact_faces}
 use Rattle.complex_core.proofs.SubsetLists.{two, map_from, map_back}
-use Rattle.flip_rules.specs.Flips.{sides}
-use Rattle.flip_rules.proofs.Links.{side, side_of, listed-sides}
+use Rattle.flip_rules.specs.Flips.{join_boundary}
+use Rattle.flip_rules.proofs.Links.{side, side_of, listed-join_boundary}
 use Rattle.complex_core.proofs.Renaming.{list_any-map}
 use Rattle.complex_core.proofs.Members.{without_has, without_other, in_without, has-rising, has-map, map_has, passes_has}
 
@@ -136,25 +136,25 @@ module _ (m : List (ℕ × ℕ)) (d : Differ m) where
   side-image : (a b : List ℕ) (x : ℕ) → Taken m b → has b x ≡ true → side (face_image m a) (face_image m b) (at m x) ≡ face_image m (side a b x)
   side-image a b x tb t = ap (union (face_image m a)) (image-without b x tb (passes_has (takes m) b x tb t)) ∙ image-union m a (without b x)
 
-  pub listed_side : (a b : List ℕ) (x : ℕ) → has b x ≡ true → listed (sides a b) (side a b x) ≡ true
-  listed_side a b x t = listed-sides a b b (side a b x) ∙ some_has (λ y. pointwise nat_eq (side a b y) (side a b x)) b x t (same_set_itself (side a b x))
+  pub listed_side : (a b : List ℕ) (x : ℕ) → has b x ≡ true → listed (join_boundary a b) (side a b x) ≡ true
+  listed_side a b x t = listed-join_boundary a b b (side a b x) ∙ some_has (λ y. pointwise nat_eq (side a b y) (side a b x)) b x t (same_set_itself (side a b x))
 
-  pub listed-sides_image : (a b g : List ℕ) → Taken m b → listed (sides (face_image m a) (face_image m b)) g ≡ listed (map (face_image m) (sides a b)) g
-  listed-sides_image a b g tb = both_ways (listed (sides (face_image m a) (face_image m b)) g) (listed (map (face_image m) (sides a b)) g)
+  pub listed-sides_image : (a b g : List ℕ) → Taken m b → listed (join_boundary (face_image m a) (face_image m b)) g ≡ listed (map (face_image m) (join_boundary a b)) g
+  listed-sides_image a b g tb = both_ways (listed (join_boundary (face_image m a) (face_image m b)) g) (listed (map (face_image m) (join_boundary a b)) g)
       (λ t. let q : (y : ℕ) × (has (face_image m b) y ≡ true) × (g ≡ side (face_image m a) (face_image m b) y) = side_of (face_image m a) (face_image m b) g t in
       let p : (x : ℕ) × (has b x ≡ true) × (q.0 ≡ at m x) = image_has m b q.0 q.1 in
       let e : g ≡ face_image m (side a b p.0) = q.2 ∙ ap (side (face_image m a) (face_image m b)) p.2 ∙ side-image a b p.0 tb p.1 in
-      ap (listed (map (face_image m) (sides a b))) e ∙ map_from (face_image m) (sides a b) (side a b p.0) (listed_side a b p.0 p.1))
-      (λ t. let q : (s : List ℕ) × (listed (sides a b) s ≡ true) × (g ≡ face_image m s) = map_back (face_image m) (sides a b) g t in
+      ap (listed (map (face_image m) (join_boundary a b))) e ∙ map_from (face_image m) (join_boundary a b) (side a b p.0) (listed_side a b p.0 p.1))
+      (λ t. let q : (s : List ℕ) × (listed (join_boundary a b) s ≡ true) × (g ≡ face_image m s) = map_back (face_image m) (join_boundary a b) g t in
       let p : (x : ℕ) × (has b x ≡ true) × (q.0 ≡ side a b x) = side_of a b q.0 q.1 in
       let e : g ≡ side (face_image m a) (face_image m b) (at m p.0) = q.2 ∙ ap (face_image m) p.2 ∙ sym (side-image a b p.0 tb p.1) in
-      ap (listed (sides (face_image m a) (face_image m b))) e ∙ listed_side (face_image m a) (face_image m b) (at m p.0) (in_image m b p.0 p.1))
+      ap (listed (join_boundary (face_image m a) (face_image m b))) e ∙ listed_side (face_image m a) (face_image m b) (at m p.0) (in_image m b p.0 p.1))
 
-  pub sides-image : (a b : List ℕ) → Taken m b → rising face_cmp (sides (face_image m a) (face_image m b)) ≡ image m (sides a b)
-  sides-image a b tb = same_lists (rising face_cmp (sides (face_image m a) (face_image m b))) (image m (sides a b))
-      (sorted_rising nat_list_cmp_total (sides (face_image m a) (face_image m b)))
-      (sorted_rising nat_list_cmp_total (map (face_image m) (sides a b)))
-      (λ g. listed-rising (sides (face_image m a) (face_image m b)) g ∙ listed-sides_image a b g tb ∙ sym (listed-rising (map (face_image m) (sides a b)) g))
+  pub join_boundary-image : (a b : List ℕ) → Taken m b → rising face_cmp (join_boundary (face_image m a) (face_image m b)) ≡ image m (join_boundary a b)
+  join_boundary-image a b tb = same_lists (rising face_cmp (join_boundary (face_image m a) (face_image m b))) (image m (join_boundary a b))
+      (sorted_rising nat_list_cmp_total (join_boundary (face_image m a) (face_image m b)))
+      (sorted_rising nat_list_cmp_total (map (face_image m) (join_boundary a b)))
+      (λ g. listed-rising (join_boundary (face_image m a) (face_image m b)) g ∙ listed-sides_image a b g tb ∙ sym (listed-rising (map (face_image m) (join_boundary a b)) g))
 
 -- ---- lists of sets
 

@@ -6,14 +6,14 @@ use Rattle.std.specs.Cmp.{first_so}
 use Rattle.std.specs.Cmp.Derive.{both_true}
 use Rattle.std.specs.Cmp.Lexicographic.{pointwise}
 use Rattle.complex_core.specs.Labels.{has, holds, without}
-use Rattle.complex_core.specs.Spaces.{Space}
+use Rattle.complex_core.specs.Complexes.{ComplexView}
 use Rattle.complex_core.specs.Maps.{takes, takes_all}
 use Rattle.complex_core.proofs.Sets.{above_tail}
 use Rattle.complex_core.proofs.Laws.{each_has, has-union, holds_has, listed, listed-filter, listed-rising, or_right, passes_listed, same_set_itself, some_has}
 use Rattle.flip_rules.specs.declared.flip.Flip.{Flip}
-use Rattle.flip_rules.specs.Flips.{sides, why, flipped, replay, Legal, OfFaces}
+use Rattle.flip_rules.specs.Flips.{join_boundary, broken_rule, flipped, replay, Legal, OfFaces}
 use Rattle.flip_rules.proofs.Legal.{legal}
-use Rattle.flip_rules.proofs.Links.{side, listed-sides}
+use Rattle.flip_rules.proofs.Links.{side, listed-join_boundary}
 use Rattle.flip_rules.proofs.Replays.{first_flip}
 use Rattle.flip_names.specs.Names.{takes_flip}
 use Rattle.flip_names.specs.Laws.{HasPositiveIndex, ReducingFlipsStay}
@@ -24,7 +24,7 @@ use Rattle.complex_core.proofs.Members.{in_without, passes_has}
 use Rattle.complex_core.proofs.SetLists.{found_set}
 
 -- the labels of A are in a facet that contains A, and each label of B is in the side without another one
-flip_taken : (m : List (ℕ × ℕ)) (k : Space) (f : Flip) → takes_all m k.facets ≡ true → OfFaces f → HasPositiveIndex f → why k f.a f.b ≡ Ok tt → takes_flip m f ≡ true
+flip_taken : (m : List (ℕ × ℕ)) (k : ComplexView) (f : Flip) → takes_all m k.facets ≡ true → OfFaces f → HasPositiveIndex f → broken_rule k f.a f.b ≡ Ok tt → takes_flip m f ≡ true
 flip_taken m k f all faces many e = both_true first second
   where
     l : Legal k f.a f.b
@@ -44,8 +44,8 @@ flip_taken m k f all faces many e = both_true first second
         first_so (listed k.facets s) (holds s f.a) (
         sym (listed-filter (λ g. holds g f.a) k.facets s)
         ∙ ap (λ fs. listed fs s) l.link
-        ∙ listed-rising (sides f.a f.b) s
-        ∙ listed-sides f.a f.b f.b s
+        ∙ listed-rising (join_boundary f.a f.b) s
+        ∙ listed-join_boundary f.a f.b f.b s
         ∙ some_has (λ z. pointwise nat_eq (side f.a f.b z) s) f.b y t (same_set_itself s)
         )
 
@@ -59,6 +59,6 @@ flip_taken m k f all faces many e = both_true first second
 pub reducing_flips_taken : ReducingFlipsStay
 reducing_flips_taken m k l [] all faces many e = refl
 reducing_flips_taken m k l (f ∷ fs) all faces many e =
-    let p : (why k f.a f.b ≡ Ok tt) × (replay (flipped k f.a f.b) fs ≡ Some l) = first_flip k l f fs e in
+    let p : (broken_rule k f.a f.b ≡ Ok tt) × (replay (flipped k f.a f.b) fs ≡ Some l) = first_flip k l f fs e in
     let t : takes_flip m f ≡ true = flip_taken m k f all faces.0 many.0 p.0 in
     both_true t (reducing_flips_taken m (flipped k f.a f.b) l fs (flip_stays_taken m k f all t) faces.1 many.1 p.1)

@@ -1,4 +1,4 @@
-ghost use Rattle.flip_names.specs.Laws.{WhyCommutes, FlipCommutes, FlipStaysTaken, ReplayCommutes, ReplayStaysTaken, ReplayIsKept, FirstIllegalIsKept, BoundaryIsKept, CertificateIsKept, SizesAreKept, RenamingIsUndone, ReducingFlipsStay};
+ghost use Rattle.flip_names.specs.Laws.{BrokenRuleCommutes, FlipCommutes, FlipStaysTaken, ReplayCommutes, ReplayStaysTaken, ReplayIsKept, FirstIllegalIsKept, BoundaryIsKept, CertificateIsKept, SizesAreKept, RenamingIsUndone, ReducingFlipsStay};
 
 /// Flips and another naming of the labels commute. A map that takes the labels of a complex and of
 /// flips keeps which flips are legal and else the first rule that they break, renames what they
@@ -6,7 +6,7 @@ ghost use Rattle.flip_names.specs.Laws.{WhyCommutes, FlipCommutes, FlipStaysTake
 /// The map of the pairs turned round leads back.
 pub fn renaming_law()
     ensures sizes { SizesAreKept }
-    ensures why { WhyCommutes }
+    ensures broken_rule { BrokenRuleCommutes }
     ensures flipped { FlipCommutes }
     ensures taken { FlipStaysTaken }
     ensures replay { ReplayCommutes }

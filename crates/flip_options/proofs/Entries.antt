@@ -13,7 +13,7 @@ use Rattle.std.proofs.lemmas.Bool.Decides.{nat_tests}
 use Rattle.std.proofs.lemmas.Option.{none-some, same_Some}
 use Rattle.std.proofs.lemmas.Map.Entries.{btree_map_get_place}
 use Rattle.complex_core.specs.Labels.{face_cmp}
-use Rattle.complex_core.specs.Spaces.{Space}
+use Rattle.complex_core.specs.Complexes.{ComplexView}
 use Rattle.complex_core.proofs.Sets.{Above, above_head, above_tail, above_cons, sorted_none}
 use Rattle.complex_core.proofs.Laws.{nat_eq_is}
 use Rattle.flip_rules.specs.Flips.{Legal}
@@ -21,7 +21,7 @@ use Rattle.flip_rules.specs.declared.flip.Flip.{Flip}
 use Rattle.flip_rules.proofs.Legal.{legal}
 use Rattle.descent_laws.specs.Descents.{IsReducing, AreCandidates, best_cmp}
 use Rattle.descent_laws.proofs.Reducing.{first_determines}
-use Rattle.flip_options.specs.Tables.{Table, key_cmp, key_of, flip_from, flips_of, is_sized, IsRight}
+use Rattle.flip_options.specs.Candidates.{Candidates, key_cmp, key_of, flip_from, flips_of, is_sized, IsRight}
 use Rattle.flip_options.proofs.Keys.{key_total, tied_key, same_key}
 use Rattle.complex_core.proofs.SubsetLists.{two}
 
@@ -68,7 +68,7 @@ some_found a b (e ∷ es) s c = at (some_found a b es (second_so (nat_eq e.0.0 (
     ]
 
 -- a table whose flips are the candidates is right at each face
-pub right_from : (k : Space) (m : Table) → is_sized m ≡ true → AreCandidates k (flips_of m) → (a : List ℕ) → IsRight k m a
+pub right_from : (k : ComplexView) (m : Candidates) → is_sized m ≡ true → AreCandidates k (flips_of m) → (a : List ℕ) → IsRight k m a
 right_from k m s c a = record {
   sound = sound;
   complete = λ b r.
@@ -87,11 +87,11 @@ each_place P [] s h = tt
 each_place P (e ∷ es) s h = (h 0 e refl (nat_eq_is e.0.0 (length e.0.1) (first_so (nat_eq e.0.0 (length e.0.1)) (sizes es) s)), each_place P es (second_so (nat_eq e.0.0 (length e.0.1)) (sizes es) s) (λ i. h (suc i)))
 
 -- the entry of a flip that reduces, with the number of labels of its A
-record IsEntry (k : Space) (e : Entry) : Type 0 where
+record IsEntry (k : ComplexView) (e : Entry) : Type 0 where
   pub size : e.0.0 ≡ length e.0.1
   pub reduces : IsReducing k (flip_in e)
 
-entries_are : (k : Space) (m : Table) → IsOrdered key_cmp m → is_sized m ≡ true → ((a : List ℕ) → IsRight k m a) → AllByRecursion (IsEntry k) m.entries
+entries_are : (k : ComplexView) (m : Candidates) → IsOrdered key_cmp m → is_sized m ≡ true → ((a : List ℕ) → IsRight k m a) → AllByRecursion (IsEntry k) m.entries
 entries_are k m o s r = each_place (IsEntry k) m.entries s (λ i e at n. record {
   size = n;
   reduces = (r e.0.1).sound e.1 (ap (λ q. get key_cmp m q) (λ j. (sym n j, e.0.1)) ∙ btree_map_get_place key_total m i e.0 e.1 o at);
@@ -108,14 +108,14 @@ then_more Equal Greater q h = cc
 then_more Greater p q h = h
 
 -- a lesser key is a better flip
-better : (k : Space) (e g : Entry) → IsEntry k e → IsEntry k g → key_cmp e.0 g.0 ≡ Less → best_cmp (flip_in e) (flip_in g) ≡ Less
+better : (k : ComplexView) (e g : Entry) → IsEntry k e → IsEntry k g → key_cmp e.0 g.0 ≡ Less → best_cmp (flip_in e) (flip_in g) ≡ Less
 better k e g p q h =
     let l : Legal k e.0.1 e.1 = legal k e.0.1 e.1 p.reduces.legal in
     let m : Legal k g.0.1 g.1 = legal k g.0.1 g.1 q.reduces.legal in
     let t : nat_cmp (length g.1) (length e.1) ≡ nat_cmp e.0.0 g.0.0 = nat_turn e.0.0 g.0.0 (length e.1) (length g.1) (k.dim + 2) (omega (arith, p.size, l.shape.sizes)) (omega (arith, q.size, m.shape.sizes)) in
     ap (λ o. ordering_then o (ordering_then (face_cmp e.0.1 g.0.1) (face_cmp e.1 g.1))) t ∙ then_more (nat_cmp e.0.0 g.0.0) (face_cmp e.0.1 g.0.1) (face_cmp e.1 g.1) h
 
-flips_sorted : (k : Space) (es : List Entry) → AllByRecursion (IsEntry k) es → IsStrictlySortedBy key_cmp (keys_of es) → IsStrictlySortedBy best_cmp (map flip_in es)
+flips_sorted : (k : ComplexView) (es : List Entry) → AllByRecursion (IsEntry k) es → IsStrictlySortedBy key_cmp (keys_of es) → IsStrictlySortedBy best_cmp (map flip_in es)
 flips_sorted k [] a s = sorted_none best_cmp
 flips_sorted k (e ∷ es) a s = above_cons best_cmp (flip_in e) (map flip_in es) (all es a.1 (above_head key_cmp e.0 (keys_of es) s)) (flips_sorted k es a.1 (above_tail key_cmp e.0 (keys_of es) s))
   where
@@ -132,7 +132,7 @@ found_contains q b (e ∷ es) h =
     ] refl h
 
 -- a table that is right at each face has the candidates
-pub candidates_made : (k : Space) (m : Table) → IsOrdered key_cmp m → is_sized m ≡ true → ((a : List ℕ) → IsRight k m a) → AreCandidates k (flips_of m)
+pub candidates_made : (k : ComplexView) (m : Candidates) → IsOrdered key_cmp m → is_sized m ≡ true → ((a : List ℕ) → IsRight k m a) → AreCandidates k (flips_of m)
 candidates_made k m o s r =
     let a : AllByRecursion (IsEntry k) m.entries = entries_are k m o s r in
     record {

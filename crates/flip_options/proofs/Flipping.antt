@@ -6,20 +6,20 @@ use Rattle.std.specs.BTreeMap.{get}
 use Rattle.std.specs.Ordering.{nat_cmp}
 use Rattle.std.proofs.lemmas.List.Kept.{IsStrictlySortedBy-filter}
 use Rattle.complex_core.specs.Labels.{has, holds, union, without, face_cmp}
-use Rattle.complex_core.specs.Spaces.{Space, IsComplex, over, is_held, is_facet}
+use Rattle.complex_core.specs.Complexes.{ComplexView, IsComplex, over, is_held, is_facet}
 use Rattle.complex_core.proofs.Sets.{above_tail}
 use Rattle.complex_core.proofs.Runs.{held_alike}
 use Rattle.complex_core.proofs.Laws.{both_ways, listed, listed-filter, same_lists, some_listed}
-use Rattle.flip_rules.specs.Flips.{OfFaces, why, flipped, Legal}
+use Rattle.flip_rules.specs.Flips.{OfFaces, broken_rule, flipped, Legal}
 use Rattle.flip_rules.specs.declared.flip.Flip.{Flip}
 use Rattle.flip_rules.proofs.Links.{side}
 use Rattle.flip_rules.proofs.Legal.{legal, legal_from}
 use Rattle.pseudo_test.proofs.Subsets.{holds_without, holds_through, holds_less, lacking}
-use Rattle.pseudo_test.proofs.Sided.{found_set}
+use Rattle.pseudo_test.proofs.Incident.{found_set}
 use Rattle.flip_laws.proofs.Exchange.{Exchange, turned, made_exchange}
 use Rattle.descent_laws.specs.Descents.{IsReducing}
 use Rattle.descent_laws.proofs.Reducing.{side_there}
-use Rattle.flip_options.specs.Tables.{Table, key_cmp, key_of, flip_from, IsRight, IsPart, IsLinked, MeetsChanged}
+use Rattle.flip_options.specs.Candidates.{Candidates, key_cmp, key_of, flip_from, IsRight, IsPart, IsLinked, MeetsChanged}
 use Rattle.std.proofs.lemmas.Bool.{false_from_ne_true}
 use Rattle.complex_core.proofs.SubsetLists.{two, clash}
 
@@ -55,7 +55,7 @@ over_stays fs gs a b w s e out = same_lists (over fs s) (over gs s) (IsStrictlyS
     ∙ sym (listed-filter (λ g. holds g s) gs f))
 
 -- a legal flip stays legal, unless its A lies in the changed part, or its B does and has all of what came in
-legal_stays : (k l : Space) (a b w c d : List ℕ) → Exchange k.facets l.facets a b w → k.dim ≡ l.dim → holds w c ≡ false → (holds w d && holds d b) ≡ false → Legal k c d → Legal l c d
+legal_stays : (k l : ComplexView) (a b w c d : List ℕ) → Exchange k.facets l.facets a b w → k.dim ≡ l.dim → holds w c ≡ false → (holds w d && holds d b) ≡ false → Legal k c d → Legal l c d
 legal_stays k l a b w c d e n out free h = record {
   shape = record { first = h.shape.first; second = h.shape.second; apart = h.shape.apart; sizes = omega (arith, h.shape.sizes, n) };
   face = sym (held_alike k.facets l.facets c same) ∙ h.face;
@@ -66,7 +66,7 @@ legal_stays k l a b w c d e n out free h = record {
     same : over k.facets c ≡ over l.facets c
     same = over_stays k.facets l.facets a b w c e out
 
-reducing_stays : (k l : Space) (a b w c d : List ℕ) → Exchange k.facets l.facets a b w → k.dim ≡ l.dim → holds w c ≡ false → (holds w d && holds d b) ≡ false → IsReducing k (flip_from c d) → IsReducing l (flip_from c d)
+reducing_stays : (k l : ComplexView) (a b w c d : List ℕ) → Exchange k.facets l.facets a b w → k.dim ≡ l.dim → holds w c ≡ false → (holds w d && holds d b) ≡ false → IsReducing k (flip_from c d) → IsReducing l (flip_from c d)
 reducing_stays k l a b w c d e n out free r = record {
   faces = r.faces;
   legal = legal_from l c d (legal_stays k l a b w c d e n out free (legal k c d r.legal));
@@ -74,7 +74,7 @@ reducing_stays k l a b w c d e n out free r = record {
 }
 
 -- the sides of a flip that is legal before or after are there, where A lies outside
-pub linked : (k l : Space) (c d : List ℕ) → over k.facets c ≡ over l.facets c → IsReducing k (flip_from c d) → IsLinked l c d
+pub linked : (k l : ComplexView) (c d : List ℕ) → over k.facets c ≡ over l.facets c → IsReducing k (flip_from c d) → IsLinked l c d
 linked k l c d same r =
     let h : Legal k c d = legal k c d r.legal in
     record {
@@ -83,12 +83,12 @@ linked k l c d same r =
       there = λ x t. first_so (listed l.facets (side c d x)) (holds (side c d x) c) (sym (listed-filter (λ g. holds g c) l.facets (side c d x)) ∙ ap (λ fs. listed fs (side c d x)) (sym same) ∙ side_there k c d x h t);
     }
 
-part_of : (k l : Space) (w c d : List ℕ) → k.dim ≡ l.dim → holds w c ≡ true → IsReducing k (flip_from c d) → IsPart l w c
+part_of : (k l : ComplexView) (w c d : List ℕ) → k.dim ≡ l.dim → holds w c ≡ true → IsReducing k (flip_from c d) → IsPart l w c
 part_of k l w c d n t r =
     let h : Legal k c d = legal k c d r.legal in
     record { face = r.faces.first; part = t; some = omega (arith, h.shape.first); few = omega (arith, h.shape.sizes, r.high, n) }
 
-meets_of : (k l : Space) (w a b c d : List ℕ) → k.dim ≡ l.dim → over k.facets c ≡ over l.facets c → (holds w d && (holds d a || holds d b)) ≡ true → IsReducing k (flip_from c d) → MeetsChanged l w a b c
+meets_of : (k l : ComplexView) (w a b c d : List ℕ) → k.dim ≡ l.dim → over k.facets c ≡ over l.facets c → (holds w d && (holds d a || holds d b)) ≡ true → IsReducing k (flip_from c d) → MeetsChanged l w a b c
 meets_of k l w a b c d n same t r =
     let h : Legal k c d = legal k c d r.legal in
     record {
@@ -111,7 +111,7 @@ neither_second true false r h = h
 neither_second false q r h = refl
 
 -- a table that was right before the flip is right after it, where the parts of the changed part and what meets it were looked at
-step_right : (k l : Space) (a b w c : List ℕ) (was now : Table) → Exchange k.facets l.facets a b w → k.dim ≡ l.dim → IsRight k was c → (get key_cmp now (key_of c) ≡ get key_cmp was (key_of c)) ⊎ IsRight l now c → (IsPart l w c → IsRight l now c) → (MeetsChanged l w a b c → IsRight l now c) → IsRight l now c
+step_right : (k l : ComplexView) (a b w c : List ℕ) (was now : Candidates) → Exchange k.facets l.facets a b w → k.dim ≡ l.dim → IsRight k was c → (get key_cmp now (key_of c) ≡ get key_cmp was (key_of c)) ⊎ IsRight l now c → (IsPart l w c → IsRight l now c) → (MeetsChanged l w a b c → IsRight l now c) → IsRight l now c
 step_right k l a b w c was now e n before (inr right) parts meets = right
 step_right k l a b w c was now e n before (inl same) parts meets = record {
   sound = λ d g.
@@ -133,5 +133,5 @@ step_right k l a b w c was now e n before (inl same) parts meets = record {
       ];
 }
 
-pub flip_right : (k : Space) (f : Flip) (c : List ℕ) (was now : Table) → IsComplex k → OfFaces f → why k f.a f.b ≡ Ok tt → IsRight k was c → (get key_cmp now (key_of c) ≡ get key_cmp was (key_of c)) ⊎ IsRight (flipped k f.a f.b) now c → (IsPart (flipped k f.a f.b) (union f.a f.b) c → IsRight (flipped k f.a f.b) now c) → (MeetsChanged (flipped k f.a f.b) (union f.a f.b) f.a f.b c → IsRight (flipped k f.a f.b) now c) → IsRight (flipped k f.a f.b) now c
+pub flip_right : (k : ComplexView) (f : Flip) (c : List ℕ) (was now : Candidates) → IsComplex k → OfFaces f → broken_rule k f.a f.b ≡ Ok tt → IsRight k was c → (get key_cmp now (key_of c) ≡ get key_cmp was (key_of c)) ⊎ IsRight (flipped k f.a f.b) now c → (IsPart (flipped k f.a f.b) (union f.a f.b) c → IsRight (flipped k f.a f.b) now c) → (MeetsChanged (flipped k f.a f.b) (union f.a f.b) f.a f.b c → IsRight (flipped k f.a f.b) now c) → IsRight (flipped k f.a f.b) now c
 flip_right k f c was now h faces t before each parts meets = step_right k (flipped k f.a f.b) f.a f.b (union f.a f.b) c was now (made_exchange k f.a f.b h faces.first faces.second (legal k f.a f.b t)) refl before each parts meets

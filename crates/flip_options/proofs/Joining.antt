@@ -9,7 +9,7 @@ use Rattle.std.proofs.lemmas.Bool.{cases_lt, false_from_ne_true, or_cases}
 use Rattle.std.proofs.lemmas.List.{take_more}
 use Rattle.complex_core.specs.Labels.{IsFace, has, holds, union, without}
 use Rattle.complex_core.specs.Links.{less}
-use Rattle.complex_core.specs.Spaces.{Space, over, is_facet}
+use Rattle.complex_core.specs.Complexes.{ComplexView, over, is_facet}
 use Rattle.complex_core.proofs.Sets.{above_tail}
 use Rattle.complex_core.proofs.SubsetLists.{fewer, clash}
 use Rattle.complex_core.proofs.Laws.{both_ways, has-union, holds_has, holds_each, or_left, or_right, listed, listed-filter, listed-append, same_labels, same_set_itself, sorted_union, length-union_apart}
@@ -19,7 +19,7 @@ use Rattle.flip_rules.proofs.Legal.{legal}
 use Rattle.pseudo_test.proofs.Subsets.{holds_through}
 use Rattle.descent_laws.specs.Descents.{IsReducing}
 use Rattle.descent_laws.proofs.Reducing.{other_label, side_there, side_back, two_at_least}
-use Rattle.flip_options.specs.Tables.{HoldsOver, IsJoin, TooMany, flip_from}
+use Rattle.flip_options.specs.Candidates.{HoldsOver, IsJoin, TooMany, flip_from}
 use Rattle.complex_core.proofs.Members.{without_has, in_without, sorted_less, has-less}
 use Rattle.stars.proofs.Flipping.{labels_held}
 use Rattle.descent_laws.proofs.Edges.{one_listed}
@@ -108,7 +108,7 @@ none_joined rows set i row all most j l e h m n = too_many rows set i row all mo
 
 -- ---- the B of a legal flip
 
-flip_over : (k : Space) (rows : List (List ℕ)) (a b : List ℕ) → over rows a ≡ over k.facets a → Legal k a b → HoldsOver rows a (union a b)
+flip_over : (k : ComplexView) (rows : List (List ℕ)) (a b : List ℕ) → over rows a ≡ over k.facets a → Legal k a b → HoldsOver rows a (union a b)
 flip_over k rows a b e l = record {
   own = union_first a b;
   each = λ f t.
@@ -116,20 +116,20 @@ flip_over k rows a b e l = record {
       ap (holds (union a b)) x.2 ∙ labels_held (union a b) a (without b x.0) (union_first a b) (holds_each (union a b) (without b x.0) (λ z u. has-union a b z ∙ or_right (has a z) (has b z) (without_has b x.0 z u)));
 }
 
-flip_size : (k : Space) (a b : List ℕ) → IsReducing k (flip_from a b) → length (union a b) ≡ k.dim + 2
+flip_size : (k : ComplexView) (a b : List ℕ) → IsReducing k (flip_from a b) → length (union a b) ≡ k.dim + 2
 flip_size k a b r =
     let l : Legal k a b = legal k a b r.legal in
     omega (arith, length-union_apart a b (above_tail nat_cmp 0 b r.faces.second.rising) (λ z t. false_from_ne_true (has a z) (λ u. clash {P = ⊥} (has b z) t (l.shape.apart z u))), l.shape.sizes)
 
-flip_sorted : (k : Space) (a b : List ℕ) → IsReducing k (flip_from a b) → IsStrictlySortedBy nat_cmp (union a b)
+flip_sorted : (k : ComplexView) (a b : List ℕ) → IsReducing k (flip_from a b) → IsStrictlySortedBy nat_cmp (union a b)
 flip_sorted k a b r = sorted_union a b (above_tail nat_cmp 0 a r.faces.first.rising)
 
 -- where there are too many labels over A, there is no flip
-pub none_fits : (k : Space) (rows : List (List ℕ)) (a b : List ℕ) (most : ℕ) → over rows a ≡ over k.facets a → most ≡ k.dim + 2 → TooMany rows a most → IsReducing k (flip_from a b) → ⊥
+pub none_fits : (k : ComplexView) (rows : List (List ℕ)) (a b : List ℕ) (most : ℕ) → over rows a ≡ over k.facets a → most ≡ k.dim + 2 → TooMany rows a most → IsReducing k (flip_from a b) → ⊥
 none_fits k rows a b most e m many r = many (union a b) (flip_sorted k a b r) (omega (arith, flip_size k a b r, m)) (flip_over k rows a b e (legal k a b r.legal))
 
 -- else they are those of A and B
-pub join_is : (k : Space) (rows : List (List ℕ)) (a b all : List ℕ) → over rows a ≡ over k.facets a → IsJoin rows a all → IsReducing k (flip_from a b) → all ≡ union a b
+pub join_is : (k : ComplexView) (rows : List (List ℕ)) (a b all : List ℕ) → over rows a ≡ over k.facets a → IsJoin rows a all → IsReducing k (flip_from a b) → all ≡ union a b
 join_is k rows a b all e j r =
     let l : Legal k a b = legal k a b r.legal in
     same_labels all (union a b) (above_tail nat_cmp 0 all j.face.rising) (flip_sorted k a b r) (λ z.
@@ -143,11 +143,11 @@ join_is k rows a b all e j r =
           (has-union a (without b y.0) z ∙ or_right (has a z) (has (without b y.0) z) (in_without b y.0 z u y.2))
     ]))
 
-pub join_size : (k : Space) (rows : List (List ℕ)) (a b all : List ℕ) → over rows a ≡ over k.facets a → IsJoin rows a all → IsReducing k (flip_from a b) → length all ≡ k.dim + 2
+pub join_size : (k : ComplexView) (rows : List (List ℕ)) (a b all : List ℕ) → over rows a ≡ over k.facets a → IsJoin rows a all → IsReducing k (flip_from a b) → length all ≡ k.dim + 2
 join_size k rows a b all e j r = ap length (join_is k rows a b all e j r) ∙ flip_size k a b r
 
 -- B is what is left of them without A
-pub less_is : (k : Space) (a b all : List ℕ) → all ≡ union a b → IsReducing k (flip_from a b) → less all a ≡ b
+pub less_is : (k : ComplexView) (a b all : List ℕ) → all ≡ union a b → IsReducing k (flip_from a b) → less all a ≡ b
 less_is k a b all e r =
     let l : Legal k a b = legal k a b r.legal in
     ap (λ f. less f a) e ∙ same_labels (less (union a b) a) b (sorted_less (union a b) a (flip_sorted k a b r)) (above_tail nat_cmp 0 b r.faces.second.rising) (λ z.

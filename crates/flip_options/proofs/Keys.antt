@@ -8,7 +8,7 @@ use Rattle.std.proofs.Common.{true}
 use Rattle.std.proofs.lemmas.Cmp.{nat_cmp_total, on_total, then_total, tied_itself}
 use Rattle.std.proofs.lemmas.Map.Lookups.{exact_unsigned, exact_bytes, exact_pairs}
 use Rattle.complex_core.specs.Labels.{face_cmp}
-use Rattle.flip_options.specs.Tables.{key_cmp}
+use Rattle.flip_options.specs.Candidates.{key_cmp}
 use Rattle.descent_laws.proofs.Candidates.{equal_is}
 
 pub key_total : IsTotalOrder key_cmp

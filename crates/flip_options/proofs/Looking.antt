@@ -11,13 +11,13 @@ use Rattle.std.proofs.lemmas.Option.{none-some, same_Some}
 use Rattle.complex_core.proofs.Sets.{above_tail}
 use Rattle.complex_core.specs.Labels.{IsFace, has, holds, union, without}
 use Rattle.complex_core.specs.Links.{less}
-use Rattle.complex_core.specs.Spaces.{Space, over, is_facet}
+use Rattle.complex_core.specs.Complexes.{ComplexView, over, is_facet}
 use Rattle.complex_core.specs.Subsets.{IsSubset, lists}
 use Rattle.complex_core.proofs.Laws.{has-union, has-without, holds_each, or_left, or_right, listed, listed-append, listed-filter, nat_eq_same, same_labels, sorted_union, length-without}
 use Rattle.flip_rules.specs.declared.flip.Flip.{Flip}
 use Rattle.flip_rules.proofs.Links.{side}
 use Rattle.stars.specs.StarViews.{StarList, IsStarListOf, star_at, places_in}
-use Rattle.flip_options.specs.Tables.{Table, Refreshed, IsPart, IsPartBelow, IsPartAt, IsLinked, IsChanged, MeetsBelow}
+use Rattle.flip_options.specs.Candidates.{Candidates, Refreshed, IsPart, IsPartBelow, IsPartAt, IsLinked, IsChanged, MeetsBelow}
 use Rattle.flip_options.proofs.Refreshing.{refreshed_then, refreshed_so}
 use Rattle.std.specs.Prelude.{IsTrue, ◌↔◌}
 use Rattle.flip_options.proofs.Joining.{listed_at, next_row}
@@ -39,12 +39,12 @@ take_all (x ∷ xs) (suc i) l = ap (λ gs. x ∷ gs) (take_all xs i (omega (arit
 
 -- ---- the parts of one size
 
-pub sized_next : (s : StarList) (m n o : Table) (xs : List (List ℕ)) (i : ℕ) (x : List ℕ) → Refreshed s m n (λ k a. is_facet (take i xs) a ≡ true) → Refreshed s n o (λ k a. a ≡ x) → i < length xs → x ≡ get_or xs i x → Refreshed s m o (λ k a. is_facet (take (i + 1) xs) a ≡ true)
+pub sized_next : (s : StarList) (m n o : Candidates) (xs : List (List ℕ)) (i : ℕ) (x : List ℕ) → Refreshed s m n (λ k a. is_facet (take i xs) a ≡ true) → Refreshed s n o (λ k a. a ≡ x) → i < length xs → x ≡ get_or xs i x → Refreshed s m o (λ k a. is_facet (take (i + 1) xs) a ≡ true)
 sized_next s m n o xs i x p q l e = refreshed_then s m n o (λ k a. is_facet (take i xs) a ≡ true) (λ k a. a ≡ x) (λ k a. is_facet (take (i + 1) xs) a ≡ true) p q (λ k h a t. next_set xs i x a l e t)
 
 -- ---- the parts of all sizes
 
-pub parts_next : (s : StarList) (m n o : Table) (set : List ℕ) (size : ℕ) → Refreshed s m n (λ k a. IsPartBelow size set a) → Refreshed s n o (λ k a. IsSubset set size a) → Refreshed s m o (λ k a. IsPartBelow (size + 1) set a)
+pub parts_next : (s : StarList) (m n o : Candidates) (set : List ℕ) (size : ℕ) → Refreshed s m n (λ k a. IsPartBelow size set a) → Refreshed s n o (λ k a. IsSubset set size a) → Refreshed s m o (λ k a. IsPartBelow (size + 1) set a)
 parts_next s m n o set size p q = refreshed_then s m n o (λ k a. IsPartBelow size set a) (λ k a. IsSubset set size a) (λ k a. IsPartBelow (size + 1) set a) p q (λ k h a t. elim (cases_lt t.size size) [
   | inl l ↦ inl (record { size = t.size; low = t.low; high = l; is = t.is })
   | inr g ↦ let e : t.size ≡ size = omega (arith, g, t.high) in let P : ℕ → Type 0 = λ z. IsSubset set z a in inr (subst P e t.is)
@@ -52,19 +52,19 @@ parts_next s m n o set size p q = refreshed_then s m n o (λ k a. IsPartBelow si
 
 -- ---- the facets of a star
 
-pub record PartSoFar (rows : List (List ℕ)) (place i : ℕ) (k : Space) (a : List ℕ) : Type 0 where
+pub record PartSoFar (rows : List (List ℕ)) (place i : ℕ) (k : ComplexView) (a : List ℕ) : Type 0 where
   pub facet : List ℕ
   pub there : is_facet (take i rows) facet ≡ true
   pub first : slice_get facet 0 ≡ Some place
   pub is : IsPart k facet a
 
-pub star_next : (s : StarList) (m n o : Table) (rows : List (List ℕ)) (place i : ℕ) (x : List ℕ) → Refreshed s m n (λ k a. PartSoFar rows place i k a) → Refreshed s n o (λ k a. IsPart k x a) → i < length rows → x ≡ get_or rows i x → Refreshed s m o (λ k a. PartSoFar rows place (i + 1) k a)
+pub star_next : (s : StarList) (m n o : Candidates) (rows : List (List ℕ)) (place i : ℕ) (x : List ℕ) → Refreshed s m n (λ k a. PartSoFar rows place i k a) → Refreshed s n o (λ k a. IsPart k x a) → i < length rows → x ≡ get_or rows i x → Refreshed s m o (λ k a. PartSoFar rows place (i + 1) k a)
 star_next s m n o rows place i x p q l e = refreshed_then s m n o (λ k a. PartSoFar rows place i k a) (λ k a. IsPart k x a) (λ k a. PartSoFar rows place (i + 1) k a) p q (λ k h a t. elim (next_set rows i x t.facet l e t.there) [
   | inl u ↦ inl (record { facet = t.facet; there = u; first = t.first; is = t.is })
   | inr u ↦ let P : List ℕ → Type 0 = λ f. IsPart k f a in inr (subst P u t.is)
 ])
 
-pub star_skip : (s : StarList) (m n : Table) (rows : List (List ℕ)) (place i : ℕ) (x : List ℕ) → Refreshed s m n (λ k a. PartSoFar rows place i k a) → (slice_get x 0 ≡ Some place → ⊥) → i < length rows → x ≡ get_or rows i x → Refreshed s m n (λ k a. PartSoFar rows place (i + 1) k a)
+pub star_skip : (s : StarList) (m n : Candidates) (rows : List (List ℕ)) (place i : ℕ) (x : List ℕ) → Refreshed s m n (λ k a. PartSoFar rows place i k a) → (slice_get x 0 ≡ Some place → ⊥) → i < length rows → x ≡ get_or rows i x → Refreshed s m n (λ k a. PartSoFar rows place (i + 1) k a)
 star_skip s m n rows place i x p other_first l e = refreshed_so s m n (λ k a. PartSoFar rows place i k a) (λ k a. PartSoFar rows place (i + 1) k a) p (λ k h a t. elim (next_set rows i x t.facet l e t.there) [
   | inl u ↦ record { facet = t.facet; there = u; first = t.first; is = t.is }
   | inr u ↦ absurd (other_first (ap (λ f. slice_get f 0) (sym u) ∙ t.first))
@@ -75,7 +75,7 @@ first_has : (f : List ℕ) (x : ℕ) → slice_get f 0 ≡ Some x → has f x �
 first_has [] x e = absurd (none-some x e)
 first_has (y ∷ ys) x e = or_left (nat_eq y x) (has ys x) (ap (λ z. nat_eq z x) (same_Some y x e) ∙ nat_eq_same x)
 
-pub star_end : (s : StarList) (m n : Table) (rows : List (List ℕ)) (place i : ℕ) → Refreshed s m n (λ k a. PartSoFar rows place i k a) → length rows ≤ i → rows ≡ star_at s place → 0 < place → place ≤ places_in s → Refreshed s m n (λ k a. IsPartAt k place a)
+pub star_end : (s : StarList) (m n : Candidates) (rows : List (List ℕ)) (place i : ℕ) → Refreshed s m n (λ k a. PartSoFar rows place i k a) → length rows ≤ i → rows ≡ star_at s place → 0 < place → place ≤ places_in s → Refreshed s m n (λ k a. IsPartAt k place a)
 star_end s m n rows place i p l is low high = refreshed_so s m n (λ k a. PartSoFar rows place i k a) (λ k a. IsPartAt k place a) p (λ k h a t. record {
   facet = t.facet;
   there = ap (λ fs. is_facet fs t.facet) (take_all rows i l ∙ is ∙ h.stars place low high) ∙ listed-filter (λ g. holds g (place ∷ [])) k.facets t.facet ∙ both_true t.there (both_true (first_has t.facet place t.first) refl);
@@ -85,12 +85,12 @@ star_end s m n rows place i p l is low high = refreshed_so s m n (λ k a. PartSo
 
 -- ---- all places
 
-pub record PlacedBelow (place : ℕ) (k : Space) (a : List ℕ) : Type 0 where
+pub record PlacedBelow (place : ℕ) (k : ComplexView) (a : List ℕ) : Type 0 where
   pub at : ℕ
   pub high : at < place
   pub is : IsPartAt k (at + 1) a
 
-pub places_next : (s : StarList) (m n o : Table) (place : ℕ) → Refreshed s m n (λ k a. PlacedBelow place k a) → Refreshed s n o (λ k a. IsPartAt k (place + 1) a) → Refreshed s m o (λ k a. PlacedBelow (place + 1) k a)
+pub places_next : (s : StarList) (m n o : Candidates) (place : ℕ) → Refreshed s m n (λ k a. PlacedBelow place k a) → Refreshed s n o (λ k a. IsPartAt k (place + 1) a) → Refreshed s m o (λ k a. PlacedBelow (place + 1) k a)
 places_next s m n o place p q = refreshed_then s m n o (λ k a. PlacedBelow place k a) (λ k a. IsPartAt k (place + 1) a) (λ k a. PlacedBelow (place + 1) k a) p q (λ k h a t. elim (cases_lt t.at place) [
   | inl l ↦ inl (record { at = t.at; high = l; is = t.is })
   | inr g ↦ let e : t.at ≡ place = omega (arith, g, t.high) in let P : ℕ → Type 0 = λ z. IsPartAt k (z + 1) a in inr (subst P e t.is)
@@ -103,13 +103,13 @@ pub record IsLeft (rows : List (List ℕ)) (rest other : List ℕ) (i : ℕ) (a 
   pub there : is_facet (over (take i rows) rest) facet ≡ true
   pub is : a ≡ less facet other
 
-pub left_next : (s : StarList) (m n o : Table) (rows : List (List ℕ)) (rest other : List ℕ) (i : ℕ) (x y : List ℕ) → Refreshed s m n (λ k a. IsLeft rows rest other i a) → Refreshed s n o (λ k a. a ≡ y) → y ≡ less x other → i < length rows → x ≡ get_or rows i x → Refreshed s m o (λ k a. IsLeft rows rest other (i + 1) a)
+pub left_next : (s : StarList) (m n o : Candidates) (rows : List (List ℕ)) (rest other : List ℕ) (i : ℕ) (x y : List ℕ) → Refreshed s m n (λ k a. IsLeft rows rest other i a) → Refreshed s n o (λ k a. a ≡ y) → y ≡ less x other → i < length rows → x ≡ get_or rows i x → Refreshed s m o (λ k a. IsLeft rows rest other (i + 1) a)
 left_next s m n o rows rest other i x y p q is l e = refreshed_then s m n o (λ k a. IsLeft rows rest other i a) (λ k a. a ≡ y) (λ k a. IsLeft rows rest other (i + 1) a) p q (λ k h a t. elim (next_row rows rest i x t.facet l e t.there) [
   | inl u ↦ inl (record { facet = t.facet; there = u; is = t.is })
   | inr u ↦ inr (t.is ∙ ap (λ f. less f other) u ∙ sym is)
 ])
 
-pub left_skip : (s : StarList) (m n : Table) (rows : List (List ℕ)) (rest other : List ℕ) (i : ℕ) (x : List ℕ) → Refreshed s m n (λ k a. IsLeft rows rest other i a) → holds x rest ≡ false → i < length rows → x ≡ get_or rows i x → Refreshed s m n (λ k a. IsLeft rows rest other (i + 1) a)
+pub left_skip : (s : StarList) (m n : Candidates) (rows : List (List ℕ)) (rest other : List ℕ) (i : ℕ) (x : List ℕ) → Refreshed s m n (λ k a. IsLeft rows rest other i a) → holds x rest ≡ false → i < length rows → x ≡ get_or rows i x → Refreshed s m n (λ k a. IsLeft rows rest other (i + 1) a)
 left_skip s m n rows rest other i x p outside l e = refreshed_so s m n (λ k a. IsLeft rows rest other i a) (λ k a. IsLeft rows rest other (i + 1) a) p (λ k h a t. elim (next_row rows rest i x t.facet l e t.there) [
   | inl u ↦ record { facet = t.facet; there = u; is = t.is }
   | inr u ↦ clash (holds x rest) (ap (λ f. holds f rest) (sym u) ∙ second_so (listed (take (i + 1) rows) t.facet) (holds t.facet rest) (sym (listed-filter (λ g. holds g rest) (take (i + 1) rows) t.facet) ∙ t.there)) outside
@@ -118,20 +118,20 @@ left_skip s m n rows rest other i x p outside l e = refreshed_so s m n (λ k a. 
 -- A is what is left of A with B less one label, without B
 left_is : (a b : List ℕ) (x : ℕ) → IsStrictlySortedBy nat_cmp a → ((z : ℕ) → has a z ≡ true → has b z ≡ false) → a ≡ less (side a b x) b
 left_is a b x s apart = sym (same_labels (less (side a b x) b) a (sorted_less (side a b x) b (sorted_union a (without b x) s)) s (λ z.
-    has-less (side a b x) b z ∙ ap (λ c. c && not (has b z)) (has-union a (without b x) z ∙ ap (λ c. has a z || c) (has-without b x z)) ∙ table (has a z) (has b z) (not (nat_eq z x)) (apart z)))
+    has-less (side a b x) b z ∙ ap (λ c. c && not (has b z)) (has-union a (without b x) z ∙ ap (λ c. has a z || c) (has-without b x z)) ∙ candidates (has a z) (has b z) (not (nat_eq z x)) (apart z)))
   where
-    table : (p q r : Bool) → (p ≡ true → q ≡ false) → ((p || (q && r)) && not q) ≡ p
-    table true true r h = sym (h refl)
-    table true false r h = refl
-    table false true true h = refl
-    table false true false h = refl
-    table false false r h = refl
+    candidates : (p q r : Bool) → (p ≡ true → q ≡ false) → ((p || (q && r)) && not q) ≡ p
+    candidates true true r h = sym (h refl)
+    candidates true false r h = refl
+    candidates false true true h = refl
+    candidates false true false h = refl
+    candidates false false r h = refl
 
 first_in : (b : List ℕ) (x : ℕ) → x ≡ get_or b 0 0 → 0 < length b → has b x ≡ true
 first_in [] x e n = absurd (omega (arith, n))
 first_in (y ∷ ys) x e n = or_left (nat_eq y x) (has ys x) (ap (λ z. nat_eq z x) (sym e) ∙ nat_eq_same x)
 
-pub left_end : (s : StarList) (m n : Table) (rows : List (List ℕ)) (rest other shown : List ℕ) (i : ℕ) → Refreshed s m n (λ k a. IsLeft rows rest other i a) → length rows ≤ i → shown ≡ other → rest ≡ without other (get_or shown 0 0) → 2 ≤ length other → IsFace other → ((k : Space) → IsStarListOf k s → 0 < length rest → over rows rest ≡ over k.facets rest) → Refreshed s m n (λ k a. IsLinked k a other)
+pub left_end : (s : StarList) (m n : Candidates) (rows : List (List ℕ)) (rest other shown : List ℕ) (i : ℕ) → Refreshed s m n (λ k a. IsLeft rows rest other i a) → length rows ≤ i → shown ≡ other → rest ≡ without other (get_or shown 0 0) → 2 ≤ length other → IsFace other → ((k : ComplexView) → IsStarListOf k s → 0 < length rest → over rows rest ≡ over k.facets rest) → Refreshed s m n (λ k a. IsLinked k a other)
 left_end s m n rows rest other shown i p l e is big face near = refreshed_so s m n (λ k a. IsLeft rows rest other i a) (λ k a. IsLinked k a other) p (λ k h a t.
     let x : ℕ = get_or other 0 0 in
     let used : has other (get_or other 0 0) ≡ true = first_in other (get_or other 0 0) refl (omega (arith, big)) in
@@ -148,30 +148,30 @@ left_end s m n rows rest other shown i p l e is big face near = refreshed_so s m
 
 -- ---- what is linked with the sets of one size
 
-pub record LinkedSoFar (sets : List (List ℕ)) (flip : Flip) (i : ℕ) (k : Space) (a : List ℕ) : Type 0 where
+pub record LinkedSoFar (sets : List (List ℕ)) (flip : Flip) (i : ℕ) (k : ComplexView) (a : List ℕ) : Type 0 where
   pub set : List ℕ
   pub there : is_facet (take i sets) set ≡ true
   pub side : (holds set flip.a || holds set flip.b) ≡ true
   pub linked : IsLinked k a set
 
-pub linked_next : (s : StarList) (m n o : Table) (sets : List (List ℕ)) (flip : Flip) (i : ℕ) (x : List ℕ) → Refreshed s m n (λ k a. LinkedSoFar sets flip i k a) → Refreshed s n o (λ k a. IsLinked k a x) → i < length sets → x ≡ get_or sets i x → Refreshed s m o (λ k a. LinkedSoFar sets flip (i + 1) k a)
+pub linked_next : (s : StarList) (m n o : Candidates) (sets : List (List ℕ)) (flip : Flip) (i : ℕ) (x : List ℕ) → Refreshed s m n (λ k a. LinkedSoFar sets flip i k a) → Refreshed s n o (λ k a. IsLinked k a x) → i < length sets → x ≡ get_or sets i x → Refreshed s m o (λ k a. LinkedSoFar sets flip (i + 1) k a)
 linked_next s m n o sets flip i x p q l e = refreshed_then s m n o (λ k a. LinkedSoFar sets flip i k a) (λ k a. IsLinked k a x) (λ k a. LinkedSoFar sets flip (i + 1) k a) p q (λ k h a t. elim (next_set sets i x t.set l e t.there) [
   | inl u ↦ inl (record { set = t.set; there = u; side = t.side; linked = t.linked })
   | inr u ↦ let P : List ℕ → Type 0 = λ b. IsLinked k a b in inr (subst P u t.linked)
 ])
 
-pub linked_skip : (s : StarList) (m n : Table) (sets : List (List ℕ)) (flip : Flip) (i : ℕ) (x : List ℕ) → Refreshed s m n (λ k a. LinkedSoFar sets flip i k a) → holds x flip.a ≡ false → holds x flip.b ≡ false → i < length sets → x ≡ get_or sets i x → Refreshed s m n (λ k a. LinkedSoFar sets flip (i + 1) k a)
+pub linked_skip : (s : StarList) (m n : Candidates) (sets : List (List ℕ)) (flip : Flip) (i : ℕ) (x : List ℕ) → Refreshed s m n (λ k a. LinkedSoFar sets flip i k a) → holds x flip.a ≡ false → holds x flip.b ≡ false → i < length sets → x ≡ get_or sets i x → Refreshed s m n (λ k a. LinkedSoFar sets flip (i + 1) k a)
 linked_skip s m n sets flip i x p na nb l e = refreshed_so s m n (λ k a. LinkedSoFar sets flip i k a) (λ k a. LinkedSoFar sets flip (i + 1) k a) p (λ k h a t. elim (next_set sets i x t.set l e t.there) [
   | inl u ↦ record { set = t.set; there = u; side = t.side; linked = t.linked }
   | inr u ↦ clash (holds x flip.a || holds x flip.b) (ap (λ b. holds b flip.a || holds b flip.b) (sym u) ∙ t.side) (λ j. na j || nb j)
 ])
 
-abbrev pub ChangedHere : List ℕ → Flip → ℕ → Space → List ℕ → Type 0
+abbrev pub ChangedHere : List ℕ → Flip → ℕ → ComplexView → List ℕ → Type 0
 ChangedHere all flip size k a = (b : List ℕ) × IsChanged all flip.a flip.b b × (length b ≡ size) × IsLinked k a b
 
 -- ---- what is linked with the sets of all sizes
 
-pub links_next : (s : StarList) (m n o : Table) (all : List ℕ) (flip : Flip) (size other : ℕ) → Refreshed s m n (λ k a. MeetsBelow size k all flip.a flip.b a) → Refreshed s n o (λ k a. ChangedHere all flip other k a) → ((k : Space) → IsStarListOf k s → size + other ≡ k.dim + 2) → Refreshed s m o (λ k a. MeetsBelow (size + 1) k all flip.a flip.b a)
+pub links_next : (s : StarList) (m n o : Candidates) (all : List ℕ) (flip : Flip) (size other : ℕ) → Refreshed s m n (λ k a. MeetsBelow size k all flip.a flip.b a) → Refreshed s n o (λ k a. ChangedHere all flip other k a) → ((k : ComplexView) → IsStarListOf k s → size + other ≡ k.dim + 2) → Refreshed s m o (λ k a. MeetsBelow (size + 1) k all flip.a flip.b a)
 links_next s m n o all flip size other p q d = refreshed_then s m n o (λ k a. MeetsBelow size k all flip.a flip.b a) (λ k a. ChangedHere all flip other k a) (λ k a. MeetsBelow (size + 1) k all flip.a flip.b a) p q (λ k h a t. elim (cases_lt (length a) size) [
   | inl l ↦ inl (record { meets = t.meets; high = l })
   | inr g ↦ inr (t.meets.other, t.meets.changed, omega (arith, g, t.high, t.meets.sizes, d k h), t.meets.linked)
@@ -181,5 +181,5 @@ links_next s m n o all flip size other p q d = refreshed_then s m n o (λ k a. M
 pub listed_size : (xs shown : List (List ℕ)) (i : ℕ) (x set : List ℕ) (size : ℕ) → shown ≡ xs → i < length shown → x ≡ get_or shown i x → ((f : List ℕ) → IsTrue (lists xs f) ↔ IsSubset set size f) → 2 ≤ size → 2 ≤ length x
 listed_size xs shown i x set size e l at h big = omega (arith, (((h x).0) (ap (λ ys. lists ys x) (sym e) ∙ listed_at shown i x l at)).size, big)
 
-pub size_left : (s : StarList) (d size end : ℕ) → d ≡ s.dim → size < end + 1 → ((k : Space) → IsStarListOf k s → (end + end ≤ k.dim + 1) × (k.dim ≤ end + end) × (end ≤ 3)) → (k : Space) → IsStarListOf k s → size + (d + 2 - size) ≡ k.dim + 2
+pub size_left : (s : StarList) (d size end : ℕ) → d ≡ s.dim → size < end + 1 → ((k : ComplexView) → IsStarListOf k s → (end + end ≤ k.dim + 1) × (k.dim ≤ end + end) × (end ≤ 3)) → (k : ComplexView) → IsStarListOf k s → size + (d + 2 - size) ≡ k.dim + 2
 size_left s d size end e l h k i = omega (arith, e, i.dim, l, (h k i).0)

@@ -7,7 +7,7 @@ use Rattle.std.specs.Ordering.{nat_cmp}
 use Rattle.std.specs.BTreeMap.{get, is_at, IsOrdered}
 use Rattle.std.proofs.lemmas.Option.{none-some, same_Some}
 use Rattle.complex_core.specs.Labels.{has, union}
-use Rattle.complex_core.specs.Spaces.{Space, is_facet}
+use Rattle.complex_core.specs.Complexes.{ComplexView, is_facet}
 use Rattle.complex_core.proofs.Sets.{above_tail}
 use Rattle.complex_core.proofs.Laws.{length-union_apart, or_left, nat_eq_same}
 use Rattle.flip_rules.specs.Flips.{flipped, Legal}
@@ -18,7 +18,7 @@ use Rattle.stars.specs.StarViews.{StarList, IsStarListOf, places_in}
 use Rattle.descent_laws.specs.Descents.{IsReducing, IsMinimal, IsBest, AreCandidates}
 use Rattle.descent_laws.proofs.Reducing.{two_at_least}
 use Rattle.descent_laws.proofs.Candidates.{first_is_best, none_is_minimal}
-use Rattle.flip_options.specs.Tables.{Table, key_cmp, key_of, flip_from, flips_of, is_sized, Refreshed, IsPart, MeetsChanged}
+use Rattle.flip_options.specs.Candidates.{Candidates, key_cmp, key_of, flip_from, flips_of, is_sized, Refreshed, IsPart, MeetsChanged}
 use Rattle.flip_options.specs.OptionViews.{AreOptions, IsStep}
 use Rattle.flip_options.proofs.Entries.{right_from, candidates_made}
 use Rattle.flip_options.proofs.Refreshing.{refreshed_then}
@@ -34,7 +34,7 @@ some_first [] n = absurd (omega (arith, n))
 some_first (p ∷ rest) n = (p, refl, or_left (nat_eq p p) (has rest p) (nat_eq_same p))
 
 -- the A of a candidate is a part of some facet
-placed : (k : Space) (s : StarList) (a b : List ℕ) → IsStarListOf k s → IsReducing k (flip_from a b) → PlacedBelow (places_in s) k a
+placed : (k : ComplexView) (s : StarList) (a b : List ℕ) → IsStarListOf k s → IsReducing k (flip_from a b) → PlacedBelow (places_in s) k a
 placed k s a b h r =
     let l : Legal k a b = legal k a b r.legal in
     let y : (y : ℕ) × (slice_get b 0 ≡ Some y) × (has b y ≡ true) = some_first b (omega (arith, two_at_least k (flip_from a b) r)) in
@@ -53,10 +53,10 @@ placed k s a b h r =
       };
     }
 
-none_at : (m : Table) (q : ℕ × List ℕ) → m.entries ≡ [] → get key_cmp m q ≡ None
+none_at : (m : Candidates) (q : ℕ × List ℕ) → m.entries ≡ [] → get key_cmp m q ≡ None
 none_at m q e = ap (lookup (is_at (key_cmp q))) e
 
-pub of_made : (s : StarList) (m n : Table) (place : ℕ) → m.entries ≡ [] → Refreshed s m n (λ k a. PlacedBelow place k a) → places_in s ≤ place → IsOrdered key_cmp n → (k : Space) → IsStarListOf k s → AreOptions k (Some (flips_of n))
+pub of_made : (s : StarList) (m n : Candidates) (place : ℕ) → m.entries ≡ [] → Refreshed s m n (λ k a. PlacedBelow place k a) → places_in s ≤ place → IsOrdered key_cmp n → (k : ComplexView) → IsStarListOf k s → AreOptions k (Some (flips_of n))
 of_made s m n place e r l o k h = record {
   flips = flips_of n;
   kept = refl;
@@ -74,15 +74,15 @@ of_made s m n place e r l o k h = record {
 
 -- ---- after a flip
 
-pub step_fits : (k : Space) (o : Option (List Flip)) (s : StarList) (f : Flip) → IsStep k o s f → length (union f.a f.b) ≤ 8
+pub step_fits : (k : ComplexView) (o : Option (List Flip)) (s : StarList) (f : Flip) → IsStep k o s f → length (union f.a f.b) ≤ 8
 step_fits k o s f h =
     let l : Legal k f.a f.b = legal k f.a f.b h.legal in
     omega (arith, length-union_apart f.a f.b (above_tail nat_cmp 0 f.b h.faces.second.rising) (λ z t. false_from_ne_true (has f.a z) (λ u. clash {P = ⊥} (has f.b z) t (l.shape.apart z u))), l.shape.sizes, h.complex.low)
 
-candidates_of : (k : Space) (o : Option (List Flip)) (flips : List Flip) → AreOptions k o → o ≡ Some flips → AreCandidates k flips
+candidates_of : (k : ComplexView) (o : Option (List Flip)) (flips : List Flip) → AreOptions k o → o ≡ Some flips → AreCandidates k flips
 candidates_of k o flips h e = let P : List Flip → Type 0 = λ fs. AreCandidates k fs in subst P (same_Some h.flips flips (sym h.kept ∙ e)) h.all
 
-pub after_made : (s : StarList) (f : Flip) (o : Option (List Flip)) (was mid now : Table) (all : List ℕ) → o ≡ Some (flips_of was) → is_sized was ≡ true → all ≡ union f.a f.b → Refreshed s was mid (λ k a. IsPart k all a) → Refreshed s mid now (λ k a. MeetsChanged k all f.a f.b a) → IsOrdered key_cmp now → (k : Space) → IsStep k o s f → AreOptions (flipped k f.a f.b) (Some (flips_of now))
+pub after_made : (s : StarList) (f : Flip) (o : Option (List Flip)) (was mid now : Candidates) (all : List ℕ) → o ≡ Some (flips_of was) → is_sized was ≡ true → all ≡ union f.a f.b → Refreshed s was mid (λ k a. IsPart k all a) → Refreshed s mid now (λ k a. MeetsChanged k all f.a f.b a) → IsOrdered key_cmp now → (k : ComplexView) → IsStep k o s f → AreOptions (flipped k f.a f.b) (Some (flips_of now))
 after_made s f o was mid now all e sized is p q order k h =
     let c : AreCandidates k (flips_of was) = candidates_of k o (flips_of was) h.had e in
     let r : Refreshed s was now (λ l a. IsPart l all a ⊎ MeetsChanged l all f.a f.b a) = refreshed_then s was mid now (λ l a. IsPart l all a) (λ l a. MeetsChanged l all f.a f.b a) (λ l a. IsPart l all a ⊎ MeetsChanged l all f.a f.b a) p q (λ l i a t. t) in
@@ -100,11 +100,11 @@ after_made s f o was mid now all e sized is p q order k h =
 -- ---- the best
 
 -- what the first of the candidates is
-pub best_of : (k : Space) (flips : List Flip) (r : Option Flip) → AreCandidates k flips → r ≡ slice_get flips 0 → MatchOption r (IsMinimal k) (IsBest k)
+pub best_of : (k : ComplexView) (flips : List Flip) (r : Option Flip) → AreCandidates k flips → r ≡ slice_get flips 0 → MatchOption r (IsMinimal k) (IsBest k)
 best_of k [] r c e = let P : Option Flip → Type 0 = λ q. MatchOption q (IsMinimal k) (IsBest k) in subst P (sym e) (none_is_minimal k c)
 best_of k (f ∷ fs) r c e = let P : Option Flip → Type 0 = λ q. MatchOption q (IsMinimal k) (IsBest k) in subst P (sym e) (first_is_best k f fs c)
 
-pub first_best : (k : Space) (m : Table) (o : Option (List Flip)) (r : Option Flip) → o ≡ Some (flips_of m) → r ≡ slice_get (flips_of m) 0 → AreOptions k o → MatchOption r (IsMinimal k) (IsBest k)
+pub first_best : (k : ComplexView) (m : Candidates) (o : Option (List Flip)) (r : Option Flip) → o ≡ Some (flips_of m) → r ≡ slice_get (flips_of m) 0 → AreOptions k o → MatchOption r (IsMinimal k) (IsBest k)
 first_best k m o r e is h = best_of k (flips_of m) r (candidates_of k o (flips_of m) h e) is
 
 -- ---- a step

@@ -2,13 +2,13 @@
 use Rattle.std.proofs.Common.{◌≡◌, ℕ, ◌+◌, ◌<◌, Bool, false, nat_eq, List, length, Ok, Err, Result, sym, ◌∙◌, ap, arith, eq-eqb, inl, inr}
 use Rattle.std.proofs.lemmas.Bool.{cases_lt}
 use Rattle.complex_core.specs.Links.{less}
-use Rattle.complex_core.specs.Spaces.{Space, over}
-use Rattle.flip_rules.specs.Flips.{why, IsNear}
+use Rattle.complex_core.specs.Complexes.{ComplexView, over}
+use Rattle.flip_rules.specs.Flips.{broken_rule, IsNear}
 use Rattle.flip_rules.specs.declared.flip.Illegal.{Illegal}
 use Rattle.stars.specs.StarViews.{StarList, IsStarListOf}
 use Rattle.descent_laws.specs.Descents.{IsReducing}
 use Rattle.descent_laws.proofs.Reducing.{two_at_least}
-use Rattle.flip_options.specs.Tables.{IsJoin, TooMany, flip_from}
+use Rattle.flip_options.specs.Candidates.{IsJoin, TooMany, flip_from}
 use Rattle.flip_options.proofs.Joining.{none_fits, join_is, join_size, less_is}
 use Rattle.complex_core.proofs.SubsetLists.{clash}
 
@@ -16,17 +16,17 @@ pub some_label : (n : ℕ) (r : Bool) → r ≡ nat_eq n 0 → r ≡ false → 0
 some_label n r e f = elim (cases_lt 0 n) [ inl p ↦ p | inr p ↦ let z : n ≡ 0 = omega (arith, p) in clash (nat_eq n 0) (eq-eqb n 0 z) (sym e ∙ f) ]
 
 -- too many labels over A, or too few
-pub none_over : (m : StarList) (rows : List (List ℕ)) (a : List ℕ) (d : ℕ) → d ≡ m.dim → 0 < length a → ((k : Space) → IsStarListOf k m → 0 < length a → over rows a ≡ over k.facets a) → TooMany rows a (d + 2) → (k : Space) → IsStarListOf k m → (b : List ℕ) → IsReducing k (flip_from a b) → ⊥
+pub none_over : (m : StarList) (rows : List (List ℕ)) (a : List ℕ) (d : ℕ) → d ≡ m.dim → 0 < length a → ((k : ComplexView) → IsStarListOf k m → 0 < length a → over rows a ≡ over k.facets a) → TooMany rows a (d + 2) → (k : ComplexView) → IsStarListOf k m → (b : List ℕ) → IsReducing k (flip_from a b) → ⊥
 none_over m rows a d e n h many k i b r = none_fits k rows a b (d + 2) (h k i n) (omega (arith, e, i.dim)) many r
 
-pub other_size : (m : StarList) (rows : List (List ℕ)) (a all : List ℕ) (d n : ℕ) → d ≡ m.dim → 0 < length a → ((k : Space) → IsStarListOf k m → 0 < length a → over rows a ≡ over k.facets a) → IsJoin rows a all → n ≡ length all → (n ≡ d + 2 → ⊥) → (k : Space) → IsStarListOf k m → (b : List ℕ) → IsReducing k (flip_from a b) → ⊥
+pub other_size : (m : StarList) (rows : List (List ℕ)) (a all : List ℕ) (d n : ℕ) → d ≡ m.dim → 0 < length a → ((k : ComplexView) → IsStarListOf k m → 0 < length a → over rows a ≡ over k.facets a) → IsJoin rows a all → n ≡ length all → (n ≡ d + 2 → ⊥) → (k : ComplexView) → IsStarListOf k m → (b : List ℕ) → IsReducing k (flip_from a b) → ⊥
 other_size m rows a all d n e p h j s o k i b r = o (omega (arith, join_size k rows a b all (h k i p) j r, s, e, i.dim))
 
 -- the one B that is left makes no legal flip
-pub refused : (m : StarList) (near_a near_b : List (List ℕ)) (a all other : List ℕ) (d : ℕ) (r : Result (Unit {0}) Illegal) (x : Illegal) → d ≡ m.dim → 0 < length a → ((k : Space) → IsStarListOf k m → 0 < length a → over near_a a ≡ over k.facets a) → ((k : Space) → IsStarListOf k m → 0 < length other → over near_b other ≡ over k.facets other) → IsJoin near_a a all → other ≡ less all a → ((k : Space) → IsNear k d near_a near_b a other → r ≡ why k a other) → r ≡ Err x → (k : Space) → IsStarListOf k m → (b : List ℕ) → IsReducing k (flip_from a b) → ⊥
+pub refused : (m : StarList) (near_a near_b : List (List ℕ)) (a all other : List ℕ) (d : ℕ) (r : Result (Unit {0}) Illegal) (x : Illegal) → d ≡ m.dim → 0 < length a → ((k : ComplexView) → IsStarListOf k m → 0 < length a → over near_a a ≡ over k.facets a) → ((k : ComplexView) → IsStarListOf k m → 0 < length other → over near_b other ≡ over k.facets other) → IsJoin near_a a all → other ≡ less all a → ((k : ComplexView) → IsNear k d near_a near_b a other → r ≡ broken_rule k a other) → r ≡ Err x → (k : ComplexView) → IsStarListOf k m → (b : List ℕ) → IsReducing k (flip_from a b) → ⊥
 refused m near_a near_b a all other d r x e n ha hb j is h bad k i b red =
     let same : other ≡ b = is ∙ less_is k a b all (join_is k near_a a b all (ha k i n) j red) red in
     let some : 0 < length other = omega (arith, two_at_least k (flip_from a b) red, ap length same) in
     let near : IsNear k d near_a near_b a other = record { dim = sym (e ∙ i.dim); first = ha k i n; second = hb k i some } in
-    let f : Err x ≡ Ok tt = sym bad ∙ h k near ∙ ap (why k a) same ∙ red.legal in
+    let f : Err x ≡ Ok tt = sym bad ∙ h k near ∙ ap (broken_rule k a) same ∙ red.legal in
     cc

@@ -1,4 +1,4 @@
 -- Candidates for a descent, kept up to date flip by flip.
-pub mod Tables
+pub mod Candidates
 pub mod OptionViews
 pub mod DescentViews

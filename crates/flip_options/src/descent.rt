@@ -1,7 +1,7 @@
 // The descent: the best flip, again and again.
 ghost use Rattle.std.specs.Prelude.{◌≡◌, IfOk, OnOk};
 ghost use Rattle.complex_core.specs.Maps.{greatest};
-ghost use Rattle.complex_core.specs.Spaces.{Space};
+ghost use Rattle.complex_core.specs.Complexes.{ComplexView};
 ghost use Rattle.flip_rules.specs.Boundaries.{IsBoundary};
 ghost use Rattle.flip_rules.specs.Flips.{flipped};
 ghost use Rattle.stars.specs.StarViews.{UsesUpTo};
@@ -32,8 +32,8 @@ fn greatest_label(complex: &Complex) -> Result<u16, AllocError>
 
 // Makes a flip of an index above d/2 on the stars, and brings the options up to date.
 fn make(stars: &mut StarMap, options: &mut Options, flip: &Flip) -> Result<(), AllocError>
-    requires { (k : Space) × AreHeld k stars.old options.old × IsReducing k flip.now }
-    ensures { (k : Space) → AreHeld k stars.old options.old → IsReducing k flip.now →
+    requires { (k : ComplexView) × AreHeld k stars.old options.old × IsReducing k flip.now }
+    ensures { (k : ComplexView) → AreHeld k stars.old options.old → IsReducing k flip.now →
         OnOk result (AreHeld (flipped k flip.now.a flip.now.b) stars.new options.new) }
 {
     match stars.flip(flip) {

@@ -8,11 +8,11 @@
 
 mod descended;
 mod descent;
-mod near;
+mod smallest_star;
 mod options;
 mod partner;
 mod refresh;
-mod table;
+mod candidates;
 
 pub use descended::Descended;
 pub use descent::descend;

@@ -1,13 +1,13 @@
 // The candidates for a descent, kept up to date after each flip.
 ghost use Rattle.std.specs.Prelude.{◌≡◌, ◌∷◌, None, IsSome, IfSome, IfOk, OnOk, OnErr, MatchOption, slice_get};
-ghost use Rattle.complex_core.specs.Spaces.{Space};
+ghost use Rattle.complex_core.specs.Complexes.{ComplexView};
 ghost use Rattle.flip_rules.specs.Flips.{flipped};
 ghost use Rattle.stars.specs.StarViews.{IsStarListOf};
 ghost use Rattle.descent_laws.specs.Descents.{IsMinimal, IsBest};
 ghost use Rattle.flip_options.specs.OptionViews.{AreOptions, IsStep};
 
 use crate::refresh::{refresh_links, refresh_parts, refresh_star};
-use crate::table::{Table, first_flip};
+use crate::candidates::{Candidates, first_flip};
 use flip_rules::Flip;
 use stars::StarMap;
 use std::alloc::{AllocError, Global};
@@ -20,7 +20,7 @@ use std::marker::Model;
 #[derive(Drop)]
 pub struct Options {
     alloc: Global,
-    table: Option<Table>,
+    candidates: Option<Candidates>,
 }
 
 impl Model for Options {
@@ -30,25 +30,25 @@ impl Model for Options {
 
     ghost Value = { Option (List Flip) };
 
-    ghost view = { λ o. found_flips o.table };
+    ghost view = { λ o. found_flips o.candidates };
 
-    ghost invariant = { λ o. has_sizes o.table ≡ true };
+    ghost invariant = { λ o. has_sizes o.candidates ≡ true };
 }
 
 impl Options {
     /// The options of the complex whose stars these are, in one pass over its facets.
     pub fn of(alloc: Global, stars: &StarMap) -> Result<Options, AllocError>
-        requires { (k : Space) × IsStarListOf k stars.now }
-        ensures { (k : Space) → IsStarListOf k stars.now → IfOk result (AreOptions k) }
+        requires { (k : ComplexView) × IsStarListOf k stars.now }
+        ensures { (k : ComplexView) → IsStarListOf k stars.now → IfOk result (AreOptions k) }
     {
-        let mut table = BTreeMap::new(alloc);
+        let mut candidates = BTreeMap::new(alloc);
         for place in 0..stars.places() {
-            refresh_star(alloc, &mut table, stars, place + 1)?;
+            refresh_star(alloc, &mut candidates, stars, place + 1)?;
         }
-        let _ordered = table.len();
+        let _ordered = candidates.len();
         Ok(Options {
             alloc,
-            table: Some(table),
+            candidates: Some(candidates),
         })
     }
 
@@ -57,22 +57,22 @@ impl Options {
     /// It costs the stars of the flip's labels, and not the size of the complex. Without memory the
     /// options are given up.
     pub fn after(&mut self, stars: &StarMap, flip: &Flip) -> Result<(), AllocError>
-        requires { (k : Space) × IsStep k self.old stars.now flip.now }
-        ensures ok { (k : Space) → IsStep k self.old stars.now flip.now →
+        requires { (k : ComplexView) × IsStep k self.old stars.now flip.now }
+        ensures ok { (k : ComplexView) → IsStep k self.old stars.now flip.now →
             OnOk result (AreOptions (flipped k flip.now.a flip.now.b) self.new) }
         ensures err { OnErr result (self.new ≡ None) }
     {
         let alloc = self.alloc;
-        let Some(mut table) = self.table.take() else {
+        let Some(mut candidates) = self.candidates.take() else {
             unreachable!()
         };
         let Some(all) = flip.a.union(&flip.b) else {
             unreachable!()
         };
-        refresh_parts(alloc, &mut table, stars, &all)?;
-        refresh_links(alloc, &mut table, stars, flip, &all)?;
-        let _ordered = table.len();
-        self.table = Some(table);
+        refresh_parts(alloc, &mut candidates, stars, &all)?;
+        refresh_links(alloc, &mut candidates, stars, flip, &all)?;
+        let _ordered = candidates.len();
+        self.candidates = Some(candidates);
         Ok(())
     }
 
@@ -81,11 +81,11 @@ impl Options {
     pub fn best(&self) -> Option<Flip>
         requires { IsSome self.now }
         ensures first { IfSome self.now (λ flips. result ≡ slice_get flips 0) }
-        ensures best { (k : Space) → AreOptions k self.now → MatchOption result (IsMinimal k) (IsBest k) }
+        ensures best { (k : ComplexView) → AreOptions k self.now → MatchOption result (IsMinimal k) (IsBest k) }
     {
-        let Some(table) = &self.table else {
+        let Some(candidates) = &self.candidates else {
             unreachable!()
         };
-        first_flip(table)
+        first_flip(candidates)
     }
 }

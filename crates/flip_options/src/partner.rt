@@ -1,9 +1,9 @@
 // The flip that reduces, at one A.
-ghost use Rattle.complex_core.specs.Spaces.{Space};
+ghost use Rattle.complex_core.specs.Complexes.{ComplexView};
 ghost use Rattle.stars.specs.StarViews.{IsStarListOf};
-ghost use Rattle.flip_options.specs.Tables.{Decides};
+ghost use Rattle.flip_options.specs.Candidates.{Decides};
 
-use crate::near::{labels_over, near};
+use crate::smallest_star::{labels_over, near};
 use complex_core::Face;
 use flip_rules::{Flip, check_near};
 use stars::StarMap;
@@ -11,8 +11,8 @@ use stars::StarMap;
 /// The B with which this A makes a legal flip of an index above d/2. `None` exactly where there is
 /// none. It takes no memory.
 pub(crate) fn partner(stars: &StarMap, face: &Face) -> Option<Face>
-    requires { (k : Space) × IsStarListOf k stars.now }
-    ensures { (k : Space) → IsStarListOf k stars.now → Decides k face.now result }
+    requires { (k : ComplexView) × IsStarListOf k stars.now }
+    ensures { (k : ComplexView) → IsStarListOf k stars.now → Decides k face.now result }
 {
     let dim = stars.dim() as usize;
     if face.is_empty() || 2 * face.len() >= dim + 2 {

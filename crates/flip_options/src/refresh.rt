@@ -1,12 +1,12 @@
 // Looks again at the faces of which a flip may have changed the candidates.
 ghost use Rattle.std.specs.Prelude.{◌≡◌, ◌↔◌, ℕ, ◌+◌, ◌<◌, ◌≤◌, List, length, OnOk, IsTrue, Some, slice_get};
-ghost use Rattle.complex_core.specs.Spaces.{Space};
+ghost use Rattle.complex_core.specs.Complexes.{ComplexView};
 ghost use Rattle.complex_core.specs.Subsets.{IsSubset};
 ghost use Rattle.stars.specs.StarViews.{IsStarListOf, places_in};
-ghost use Rattle.flip_options.specs.Tables.{Refreshed, IsPart, IsPartAt, IsLinked, IsChanged, MeetsChanged};
+ghost use Rattle.flip_options.specs.Candidates.{Refreshed, IsPart, IsPartAt, IsLinked, IsChanged, MeetsChanged};
 
-use crate::near::near;
-use crate::table::{Table, refresh};
+use crate::smallest_star::near;
+use crate::candidates::{Candidates, refresh};
 use complex_core::Face;
 use flip_rules::Flip;
 use stars::StarMap;
@@ -14,8 +14,8 @@ use std::alloc::{AllocError, Global};
 
 // How many labels A has at most, in a flip of an index above d/2.
 fn most_labels(stars: &StarMap) -> usize
-    requires { (k : Space) × IsStarListOf k stars.now }
-    ensures { (k : Space) → IsStarListOf k stars.now → (result + result ≤ k.dim + 1) × (k.dim ≤ result + result) × (result ≤ 3) }
+    requires { (k : ComplexView) × IsStarListOf k stars.now }
+    ensures { (k : ComplexView) → IsStarListOf k stars.now → (result + result ≤ k.dim + 1) × (k.dim ≤ result + result) × (result ≤ 3) }
 {
     (stars.dim() as usize + 1) / 2
 }
@@ -23,16 +23,16 @@ fn most_labels(stars: &StarMap) -> usize
 // Looks again at the parts of a set that have so many labels.
 fn refresh_sized(
     alloc: Global,
-    table: &mut Table,
+    candidates: &mut Candidates,
     stars: &StarMap,
     set: &Face,
     size: usize,
 ) -> Result<(), AllocError>
-    requires { (k : Space) × IsStarListOf k stars.now }
-    ensures { OnOk result (Refreshed stars.now table.old table.new (λ k a. IsSubset set.now size a)) }
+    requires { (k : ComplexView) × IsStarListOf k stars.now }
+    ensures { OnOk result (Refreshed stars.now candidates.old candidates.new (λ k a. IsSubset set.now size a)) }
 {
     for part in &set.subsets(alloc, size)? {
-        refresh(table, stars, part)?;
+        refresh(candidates, stars, part)?;
     }
     Ok(())
 }
@@ -40,15 +40,15 @@ fn refresh_sized(
 /// Looks again at all parts of a set that may be the A of a candidate.
 pub(crate) fn refresh_parts(
     alloc: Global,
-    table: &mut Table,
+    candidates: &mut Candidates,
     stars: &StarMap,
     set: &Face,
 ) -> Result<(), AllocError>
-    requires { (k : Space) × IsStarListOf k stars.now }
-    ensures { OnOk result (Refreshed stars.now table.old table.new (λ k a. IsPart k set.now a)) }
+    requires { (k : ComplexView) × IsStarListOf k stars.now }
+    ensures { OnOk result (Refreshed stars.now candidates.old candidates.new (λ k a. IsPart k set.now a)) }
 {
     for size in 1..most_labels(stars) + 1 {
-        refresh_sized(alloc, table, stars, set, size)?;
+        refresh_sized(alloc, candidates, stars, set, size)?;
     }
     Ok(())
 }
@@ -66,33 +66,33 @@ fn begins_with(facet: &Face, label: u16) -> bool
 /// Looks again at the parts of the facets whose least label is this place.
 pub(crate) fn refresh_star(
     alloc: Global,
-    table: &mut Table,
+    candidates: &mut Candidates,
     stars: &StarMap,
     place: u16,
 ) -> Result<(), AllocError>
-    requires stars { (k : Space) × IsStarListOf k stars.now }
+    requires stars { (k : ComplexView) × IsStarListOf k stars.now }
     requires low { 0 < place }
     requires high { place ≤ places_in stars.now }
-    ensures { OnOk result (Refreshed stars.now table.old table.new (λ k a. IsPartAt k place a)) }
+    ensures { OnOk result (Refreshed stars.now candidates.old candidates.new (λ k a. IsPartAt k place a)) }
 {
     for facet in stars.star(place).rows() {
         if begins_with(facet, place) {
-            refresh_parts(alloc, table, stars, facet)?;
+            refresh_parts(alloc, candidates, stars, facet)?;
         }
     }
     Ok(())
 }
 
 // Looks again at each A that is linked with this B: there are facets A with B less one label.
-fn refresh_partners(table: &mut Table, stars: &StarMap, other: &Face) -> Result<(), AllocError>
-    requires stars { (k : Space) × IsStarListOf k stars.now }
+fn refresh_partners(candidates: &mut Candidates, stars: &StarMap, other: &Face) -> Result<(), AllocError>
+    requires stars { (k : ComplexView) × IsStarListOf k stars.now }
     requires some { 2 ≤ length other.now }
-    ensures { OnOk result (Refreshed stars.now table.old table.new (λ k a. IsLinked k a other.now)) }
+    ensures { OnOk result (Refreshed stars.now candidates.old candidates.new (λ k a. IsLinked k a other.now)) }
 {
     let rest = other.without(other.label(0));
     for facet in near(stars, &rest) {
         if facet.holds(&rest) {
-            refresh(table, stars, &facet.less(other))?;
+            refresh(candidates, stars, &facet.less(other))?;
         }
     }
     Ok(())
@@ -102,20 +102,20 @@ fn refresh_partners(table: &mut Table, stars: &StarMap, other: &Face) -> Result<
 // all of A or of B of the flip. Other sets are faces where they were.
 fn refresh_changed(
     alloc: Global,
-    table: &mut Table,
+    candidates: &mut Candidates,
     stars: &StarMap,
     flip: &Flip,
     all: &Face,
     size: usize,
 ) -> Result<(), AllocError>
-    requires stars { (k : Space) × IsStarListOf k stars.now }
+    requires stars { (k : ComplexView) × IsStarListOf k stars.now }
     requires some { 2 ≤ size }
-    ensures { OnOk result (Refreshed stars.now table.old table.new (λ k a.
+    ensures { OnOk result (Refreshed stars.now candidates.old candidates.new (λ k a.
         (b : List ℕ) × IsChanged all.now flip.now.a flip.now.b b × (length b ≡ size) × IsLinked k a b)) }
 {
     for set in &all.subsets(alloc, size)? {
         if set.holds(&flip.a) || set.holds(&flip.b) {
-            refresh_partners(table, stars, set)?;
+            refresh_partners(candidates, stars, set)?;
         }
     }
     Ok(())
@@ -124,18 +124,18 @@ fn refresh_changed(
 /// Looks again at each A that is linked with a B in the changed part.
 pub(crate) fn refresh_links(
     alloc: Global,
-    table: &mut Table,
+    candidates: &mut Candidates,
     stars: &StarMap,
     flip: &Flip,
     all: &Face,
 ) -> Result<(), AllocError>
-    requires { (k : Space) × IsStarListOf k stars.now }
-    ensures { OnOk result (Refreshed stars.now table.old table.new (λ k a.
+    requires { (k : ComplexView) × IsStarListOf k stars.now }
+    ensures { OnOk result (Refreshed stars.now candidates.old candidates.new (λ k a.
         MeetsChanged k all.now flip.now.a flip.now.b a)) }
 {
     let labels = stars.dim() as usize + 2;
     for size in 1..most_labels(stars) + 1 {
-        refresh_changed(alloc, table, stars, flip, all, labels - size)?;
+        refresh_changed(alloc, candidates, stars, flip, all, labels - size)?;
     }
     Ok(())
 }

@@ -2,7 +2,7 @@
 use Rattle.std.proofs.Common.{◌≡◌, ◌≢◌, ℕ, ◌+◌, ◌≤◌, zero, suc, Bool, true, false, cond, ◌⊎◌, inl, inr, List, [], ◌∷◌, ◌++◌, length, filter, get_or, drop, Some, sym, ◌∙◌, ap, refl, subst, append_assoc, arith}
 use Rattle.std.proofs.lemmas.List.{append-nil}
 use Rattle.std.proofs.lemmas.Option.{same_Some}
-use Rattle.complex_core.specs.Spaces.{Space}
+use Rattle.complex_core.specs.Complexes.{ComplexView}
 use Rattle.flip_rules.specs.Flips.{replay}
 use Rattle.flip_rules.specs.Entries.{JournalEntry}
 use Rattle.flip_rules.specs.Journals.{flat, entry_touches, touches, star_of, IsShortest, ShortestExists, ShortestIsOne, StarsExist, StarIsOne, StarStays}
@@ -99,7 +99,7 @@ shortest_is_one es front other place n h g = shortest_from es front other place 
 pub stars_exist : StarsExist
 stars_exist k m es place n h le =
     let f : (front : List JournalEntry) × IsShortest es place n front = shortest_exists es place n le in
-    let r : (l : Space) × (replay k (flat f.0) ≡ Some l) × (replay l (flat f.1.rest) ≡ Some m) = replay_split k m (flat f.0) (flat f.1.rest) (ap (replay k) (sym (ap flat f.1.splits ∙ flat-append f.0 f.1.rest)) ∙ h) in
+    let r : (l : ComplexView) × (replay k (flat f.0) ≡ Some l) × (replay l (flat f.1.rest) ≡ Some m) = replay_split k m (flat f.0) (flat f.1.rest) (ap (replay k) (sym (ap flat f.1.splits ∙ flat-append f.0 f.1.rest)) ∙ h) in
     (star_of r.0 place, record { front = f.0; shortest = f.1; there = r.0; replays = r.1; star = refl })
 
 pub star_is_one : StarIsOne

@@ -5,9 +5,9 @@ use Rattle.std.specs.Cmp.{first_so, second_so}
 use Rattle.std.specs.Cmp.Derive.{both_true}
 use Rattle.complex_core.specs.Labels.{has, union, without, face_cmp, IsFace}
 use Rattle.complex_core.specs.Rising.{rising}
-use Rattle.complex_core.specs.Spaces.{Space, over, is_held, IsComplex, IsFacet}
+use Rattle.complex_core.specs.Complexes.{ComplexView, over, is_held, IsComplex, IsFacet}
 use Rattle.complex_core.proofs.Laws.{Apart, none_has, none_from, nat_eq_is, facet_side, or_left, or_right, nat_eq_same}
-use Rattle.flip_rules.specs.Flips.{Shaped, Legal, sides, has_shape, link_is, why, why_near, CanPut}
+use Rattle.flip_rules.specs.Flips.{Shaped, Legal, join_boundary, has_shape, link_is, broken_rule, broken_rule_near, CanPut}
 use Rattle.flip_rules.specs.declared.flip.Illegal.{Illegal}
 use Rattle.flip_rules.specs.declared.flip.Illegal.TheVariants.{Shape, NotAFace, LinkDiffers, BIsFace}
 use Rattle.flip_rules.proofs.Links.{same_lists_is, same_lists_from}
@@ -56,18 +56,18 @@ shape_from d a b s =
     apart_sizes : (n : ℕ) → (n ≢ 0) → nat_eq n 0 ≡ false
     apart_sizes n h = elim (nat_eq n 0) as (λ b. nat_eq n 0 ≡ b → b ≡ false) [ true ↦ λ e. absurd (h (nat_eq_is n 0 e)) | false ↦ λ e. refl ] refl
 
-pub legal : (k : Space) (a b : List ℕ) → why k a b ≡ Ok tt → Legal k a b
+pub legal : (k : ComplexView) (a b : List ℕ) → broken_rule k a b ≡ Ok tt → Legal k a b
 legal k a b h =
     let p : Passed (has_shape k.dim a b) (is_held k.facets a) (link_is k.facets a b) (is_held k.facets b) = four (has_shape k.dim a b) (is_held k.facets a) (link_is k.facets a b) (is_held k.facets b) h in
     record {
       shape = shaped k.dim a b p.0;
       face = p.1;
-      link = same_lists_is (over k.facets a) (rising face_cmp (sides a b)) p.2;
+      link = same_lists_is (over k.facets a) (rising face_cmp (join_boundary a b)) p.2;
       free = p.3;
     }
 
-pub legal_from : (k : Space) (a b : List ℕ) → Legal k a b → why k a b ≡ Ok tt
-legal_from k a b l = four_from (has_shape k.dim a b) (is_held k.facets a) (link_is k.facets a b) (is_held k.facets b) (shape_from k.dim a b l.shape) l.face (same_lists_from (over k.facets a) (rising face_cmp (sides a b)) l.link) l.free
+pub legal_from : (k : ComplexView) (a b : List ℕ) → Legal k a b → broken_rule k a b ≡ Ok tt
+legal_from k a b l = four_from (has_shape k.dim a b) (is_held k.facets a) (link_is k.facets a b) (is_held k.facets b) (shape_from k.dim a b l.shape) l.face (same_lists_from (over k.facets a) (rising face_cmp (join_boundary a b)) l.link) l.free
 
 pure_sides : (d : ℕ) (b a c : List ℕ) → IsFace b → IsFace a → Apart b a → length a + length b ≡ d + 2 → d ≤ 6 → ((x : ℕ) → has c x ≡ true → has a x ≡ true) → AllByRecursion (IsFacet d) (map (λ x. union b (without a x)) c)
 pure_sides d b a [] fb fa apart n low part = tt
@@ -88,19 +88,19 @@ can_put_shaped d a b low fa fb s = record {
   pure = pure_sides d b a a fb fa s.apart s.sizes low (λ x t. t);
 }
 
-pub can_put : (k : Space) (a b : List ℕ) → IsComplex k → IsFace a → IsFace b → why k a b ≡ Ok tt → CanPut k.dim a b
+pub can_put : (k : ComplexView) (a b : List ℕ) → IsComplex k → IsFace a → IsFace b → broken_rule k a b ≡ Ok tt → CanPut k.dim a b
 can_put k a b h fa fb e = can_put_shaped k.dim a b h.low fa fb (legal k a b e).shape
 
 -- a flip that breaks no rule by the facets near A and B is one by its shape
-pub can_put_near : (d : ℕ) (near_a near_b : List (List ℕ)) (a b : List ℕ) (r : Result (Unit {0}) Illegal) → d ≤ 6 → IsFace a → IsFace b → r ≡ why_near d near_a near_b a b → OnOk r (CanPut d a b)
+pub can_put_near : (d : ℕ) (near_a near_b : List (List ℕ)) (a b : List ℕ) (r : Result (Unit {0}) Illegal) → d ≤ 6 → IsFace a → IsFace b → r ≡ broken_rule_near d near_a near_b a b → OnOk r (CanPut d a b)
 can_put_near d near_a near_b a b (Ok u) low fa fb e = can_put_shaped d a b low fa fb (shaped d a b (four (has_shape d a b) (is_held near_a a) (link_is near_a a b) (is_held near_b b) (sym e)).0)
 can_put_near d near_a near_b a b (Err f) low fa fb e = tt
 
 -- an answer that is the first rule broken, against the rules
-pub decides_legal : (k : Space) (a b : List ℕ) (r : Result (Unit {0}) Illegal) → r ≡ why k a b → (IsOk r → Legal k a b) × (Legal k a b → IsOk r)
+pub decides_legal : (k : ComplexView) (a b : List ℕ) (r : Result (Unit {0}) Illegal) → r ≡ broken_rule k a b → (IsOk r → Legal k a b) × (Legal k a b → IsOk r)
 decides_legal k a b (Ok u) e = (λ _. legal k a b (sym e), λ _. refl)
 decides_legal k a b (Err f) e = (λ t. let g : false ≡ true = t in cc, λ l. let g : Err f ≡ Ok tt = e ∙ legal_from k a b l in cc)
 
-pub can_put_on : (k : Space) (a b : List ℕ) (r : Result (Unit {0}) Illegal) → IsComplex k → IsFace a → IsFace b → r ≡ why k a b → OnOk r (CanPut k.dim a b)
+pub can_put_on : (k : ComplexView) (a b : List ℕ) (r : Result (Unit {0}) Illegal) → IsComplex k → IsFace a → IsFace b → r ≡ broken_rule k a b → OnOk r (CanPut k.dim a b)
 can_put_on k a b (Ok u) h fa fb e = can_put k a b h fa fb (sym e)
 can_put_on k a b (Err f) h fa fb e = tt

@@ -8,10 +8,10 @@ use Rattle.std.specs.Cmp.Lexicographic.{pointwise, nat_list_cmp_total, nat_list_
 use Rattle.std.proofs.lemmas.List.Kept.{IsStrictlySortedBy-filter}
 use Rattle.complex_core.specs.Rising.{rising}
 use Rattle.complex_core.specs.Labels.{has, holds, union, without, face_cmp}
-use Rattle.complex_core.specs.Spaces.{Space, over, beside, staying, is_held}
+use Rattle.complex_core.specs.Complexes.{ComplexView, over, beside, staying, is_held}
 use Rattle.complex_core.proofs.Sets.{sorted_rising}
 use Rattle.complex_core.proofs.Laws.{both_ways, has-union, holds_each, or_left, or_right, listed, listed-append, same_sets_is, same_set_itself, listed-filter, listed-rising, same_lists, passes_listed, each_listed, found, some_listed}
-use Rattle.flip_rules.specs.Flips.{sides, same_sets, link_is, link_fault, flipped}
+use Rattle.flip_rules.specs.Flips.{join_boundary, same_sets, link_is, link_fault, flipped}
 use Rattle.flip_rules.specs.declared.flip.Illegal.{Illegal}
 use Rattle.flip_rules.specs.declared.flip.Illegal.TheVariants.{NotAFace, LinkDiffers}
 
@@ -19,9 +19,9 @@ abbrev pub side : List ℕ → List ℕ → ℕ → List ℕ
 side a b x = union a (without b x)
 
 -- a side, as a test over the labels
-pub listed-sides : (a b c : List ℕ) (f : List ℕ) → listed (map (side a c) b) f ≡ list_any (λ x. pointwise nat_eq (side a c x) f) b
-listed-sides a [] c f = refl
-listed-sides a (y ∷ ys) c f = ap (λ t. pointwise nat_eq (side a c y) f || t) (listed-sides a ys c f)
+pub listed-join_boundary : (a b c : List ℕ) (f : List ℕ) → listed (map (side a c) b) f ≡ list_any (λ x. pointwise nat_eq (side a c x) f) b
+listed-join_boundary a [] c f = refl
+listed-join_boundary a (y ∷ ys) c f = ap (λ t. pointwise nat_eq (side a c y) f || t) (listed-join_boundary a ys c f)
 
 pub same_lists_is : (fs gs : List (List ℕ)) → same_sets fs gs ≡ true → fs ≡ gs
 same_lists_is [] [] h = refl
@@ -58,13 +58,13 @@ abbrev pub EachHolds : List (List ℕ) → List ℕ → Type 0
 EachHolds sets a = (f : List ℕ) → listed sets f ≡ true → holds f a ≡ true
 
 -- a side that is listed is made of some label
-pub side_of : (a b : List ℕ) (f : List ℕ) → listed (sides a b) f ≡ true → (x : ℕ) × (has b x ≡ true) × (f ≡ side a b x)
+pub side_of : (a b : List ℕ) (f : List ℕ) → listed (join_boundary a b) f ≡ true → (x : ℕ) × (has b x ≡ true) × (f ≡ side a b x)
 side_of a b f t =
-    let r : (x : ℕ) × (has b x ≡ true) × (pointwise nat_eq (side a b x) f ≡ true) = found (λ x. pointwise nat_eq (side a b x) f) b (sym (listed-sides a b b f) ∙ t) in
+    let r : (x : ℕ) × (has b x ≡ true) × (pointwise nat_eq (side a b x) f ≡ true) = found (λ x. pointwise nat_eq (side a b x) f) b (sym (listed-join_boundary a b b f) ∙ t) in
     (r.0, r.1, sym (same_sets_is (side a b r.0) f r.2))
 
 -- each side contains A
-pub sides_hold : (a b : List ℕ) → EachHolds (sides a b) a
+pub sides_hold : (a b : List ℕ) → EachHolds (join_boundary a b) a
 sides_hold a b f t = let r : (x : ℕ) × (has b x ≡ true) × (f ≡ side a b x) = side_of a b f t in ap (λ g. holds g a) r.2 ∙ side_holds a b r.0
 
 link_from : (facets sets : List (List ℕ)) (a : List ℕ) → IsStrictlySortedBy face_cmp facets → EachHolds sets a → are_sides facets a sets ≡ true → have_sides facets sets ≡ true → over facets a ≡ rising face_cmp sets
@@ -86,14 +86,14 @@ link_have facets sets a e = each_listed (λ g. listed facets g) sets (λ f t.
     first_so (listed facets f) (holds f a) (sym (listed-filter (λ g. holds g a) facets f) ∙ ap (λ fs. listed fs f) e ∙ listed-rising sets f ∙ t))
 
 -- the two tests together are the link condition
-pub link_tested : (facets : List (List ℕ)) (a b : List ℕ) → IsStrictlySortedBy face_cmp facets → (have_sides facets (sides a b) && are_sides facets a (sides a b)) ≡ link_is facets a b
-link_tested facets a b s = both_ways (have_sides facets (sides a b) && are_sides facets a (sides a b)) (link_is facets a b)
-    (λ t. same_lists_from (over facets a) (rising face_cmp (sides a b)) (link_from facets (sides a b) a s (sides_hold a b) (second_so (have_sides facets (sides a b)) (are_sides facets a (sides a b)) t) (first_so (have_sides facets (sides a b)) (are_sides facets a (sides a b)) t)))
-    (λ t. let e : over facets a ≡ rising face_cmp (sides a b) = same_lists_is (over facets a) (rising face_cmp (sides a b)) t in
-    both_parts (have_sides facets (sides a b)) (are_sides facets a (sides a b)) (link_have facets (sides a b) a e) (link_are facets (sides a b) a e))
+pub link_tested : (facets : List (List ℕ)) (a b : List ℕ) → IsStrictlySortedBy face_cmp facets → (have_sides facets (join_boundary a b) && are_sides facets a (join_boundary a b)) ≡ link_is facets a b
+link_tested facets a b s = both_ways (have_sides facets (join_boundary a b) && are_sides facets a (join_boundary a b)) (link_is facets a b)
+    (λ t. same_lists_from (over facets a) (rising face_cmp (join_boundary a b)) (link_from facets (join_boundary a b) a s (sides_hold a b) (second_so (have_sides facets (join_boundary a b)) (are_sides facets a (join_boundary a b)) t) (first_so (have_sides facets (join_boundary a b)) (are_sides facets a (join_boundary a b)) t)))
+    (λ t. let e : over facets a ≡ rising face_cmp (join_boundary a b) = same_lists_is (over facets a) (rising face_cmp (join_boundary a b)) t in
+    both_parts (have_sides facets (join_boundary a b)) (are_sides facets a (join_boundary a b)) (link_have facets (join_boundary a b) a e) (link_are facets (join_boundary a b) a e))
 
 -- where all sides are there, and B has a label, A is held
-pub sides_held : (facets : List (List ℕ)) (a b : List ℕ) → 0 < length b → have_sides facets (sides a b) ≡ true → is_held facets a ≡ true
+pub sides_held : (facets : List (List ℕ)) (a b : List ℕ) → 0 < length b → have_sides facets (join_boundary a b) ≡ true → is_held facets a ≡ true
 sides_held facets a [] n have = absurd (omega (arith, n))
 sides_held facets a (x ∷ xs) n have =
     some_listed (λ f. holds f a) facets (side a (x ∷ xs) x) (first_so (listed facets (side a (x ∷ xs) x)) (list_all (λ s. listed facets s) (map (side a (x ∷ xs)) xs)) have) (side_holds a (x ∷ xs) x)
@@ -103,19 +103,19 @@ abbrev pub fault_of : Bool → Bool → Result (Unit {0}) Illegal
 fault_of held link = if held then (if link then Ok tt else Err LinkDiffers) else Err NotAFace
 
 -- the same, of the sides and answers that a program has
-pub link_by_tests : (facets first second : List (List ℕ)) (a b : List ℕ) (have are : Bool) → IsStrictlySortedBy face_cmp facets → first ≡ sides a b → second ≡ sides a b → have_sides facets first ≡ have → are_sides facets a second ≡ are → link_is facets a b ≡ (have && are)
+pub link_by_tests : (facets first second : List (List ℕ)) (a b : List ℕ) (have are : Bool) → IsStrictlySortedBy face_cmp facets → first ≡ join_boundary a b → second ≡ join_boundary a b → have_sides facets first ≡ have → are_sides facets a second ≡ are → link_is facets a b ≡ (have && are)
 link_by_tests facets first second a b have are s p q h r =
     sym (link_tested facets a b s) ∙ (λ i. have_sides facets (sym p i) && are_sides facets a (sym q i)) ∙ (λ i. h i && r i)
 
-pub held_by_tests : (facets first : List (List ℕ)) (a b : List ℕ) → 0 < length b → first ≡ sides a b → have_sides facets first ≡ true → is_held facets a ≡ true
+pub held_by_tests : (facets first : List (List ℕ)) (a b : List ℕ) → 0 < length b → first ≡ join_boundary a b → have_sides facets first ≡ true → is_held facets a ≡ true
 held_by_tests facets first a b n p h = sides_held facets a b n (ap (have_sides facets) (sym p) ∙ h)
 
 pub fault_told : (facets : List (List ℕ)) (a b : List ℕ) (held link : Bool) → is_held facets a ≡ held → link_is facets a b ≡ link → fault_of held link ≡ link_fault facets a b
 fault_told facets a b held link p q = λ i. fault_of (sym p i) (sym q i)
 
 -- the facets after a flip: those that don't contain A, and the sides of B with A
-pub listed-flipped : (k : Space) (a b : List ℕ) (f : List ℕ) → listed (flipped k a b).facets f ≡ ((listed k.facets f && not (holds f a)) || listed (sides b a) f)
-listed-flipped k a b f = listed-rising (beside k.facets a ++ sides b a) f ∙ listed-append (beside k.facets a) (sides b a) f ∙ ap (λ c. c || listed (sides b a) f) (listed-filter (λ g. not (holds g a)) k.facets f)
+pub listed-flipped : (k : ComplexView) (a b : List ℕ) (f : List ℕ) → listed (flipped k a b).facets f ≡ ((listed k.facets f && not (holds f a)) || listed (join_boundary b a) f)
+listed-flipped k a b f = listed-rising (beside k.facets a ++ join_boundary b a) f ∙ listed-append (beside k.facets a) (join_boundary b a) f ∙ ap (λ c. c || listed (join_boundary b a) f) (listed-filter (λ g. not (holds g a)) k.facets f)
 
 filter_same : (p q : List ℕ → Bool) (fs : List (List ℕ)) → ((f : List ℕ) → listed fs f ≡ true → p f ≡ q f) → filter p fs ≡ filter q fs
 filter_same p q [] h = refl
@@ -124,16 +124,16 @@ filter_same p q (f ∷ fs) h =
     ∙ ap (λ gs. cond (q f) (f ∷ gs) gs) (filter_same p q fs (λ g t. h g (or_right (pointwise nat_eq f g) (listed fs g) t)))
 
 -- to take out the sides is to take out the facets that contain A
-pub staying_sides : (facets : List (List ℕ)) (a b : List ℕ) → over facets a ≡ rising face_cmp (sides a b) → staying facets (sides a b) ≡ beside facets a
-staying_sides facets a b e = filter_same (λ f. not (listed (sides a b) f)) (λ f. not (holds f a)) facets (λ f t.
-    ap not (sym (listed-rising (sides a b) f) ∙ ap (λ fs. listed fs f) (sym e) ∙ listed-filter (λ g. holds g a) facets f ∙ ap (λ c. c && holds f a) t))
+pub staying_sides : (facets : List (List ℕ)) (a b : List ℕ) → over facets a ≡ rising face_cmp (join_boundary a b) → staying facets (join_boundary a b) ≡ beside facets a
+staying_sides facets a b e = filter_same (λ f. not (listed (join_boundary a b) f)) (λ f. not (holds f a)) facets (λ f t.
+    ap not (sym (listed-rising (join_boundary a b) f) ∙ ap (λ fs. listed fs f) (sym e) ∙ listed-filter (λ g. holds g a) facets f ∙ ap (λ c. c && holds f a) t))
 
 -- the facets with the sides of A taken out and those of B put in
-abbrev pub with_facets : Space → List (List ℕ) → Space
+abbrev pub with_facets : ComplexView → List (List ℕ) → ComplexView
 with_facets k facets = record { dim = k.dim; facets = facets }
 
-pub flipped_by_sides : (k : Space) (a b : List ℕ) (out more : List (List ℕ)) → out ≡ sides a b → more ≡ sides b a → over k.facets a ≡ rising face_cmp (sides a b) → with_facets k (rising face_cmp (staying k.facets out ++ more)) ≡ flipped k a b
+pub flipped_by_sides : (k : ComplexView) (a b : List ℕ) (out more : List (List ℕ)) → out ≡ join_boundary a b → more ≡ join_boundary b a → over k.facets a ≡ rising face_cmp (join_boundary a b) → with_facets k (rising face_cmp (staying k.facets out ++ more)) ≡ flipped k a b
 flipped_by_sides k a b out more p q e =
     ap (λ (fs : List (List ℕ)). with_facets k (rising face_cmp (staying k.facets fs ++ more))) p
-    ∙ ap (λ (fs : List (List ℕ)). with_facets k (rising face_cmp (staying k.facets (sides a b) ++ fs))) q
-    ∙ ap (λ (fs : List (List ℕ)). with_facets k (rising face_cmp (fs ++ sides b a))) (staying_sides k.facets a b e)
+    ∙ ap (λ (fs : List (List ℕ)). with_facets k (rising face_cmp (staying k.facets (join_boundary a b) ++ fs))) q
+    ∙ ap (λ (fs : List (List ℕ)). with_facets k (rising face_cmp (fs ++ join_boundary b a))) (staying_sides k.facets a b e)

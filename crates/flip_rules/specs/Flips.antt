@@ -4,7 +4,7 @@ use Rattle.std.specs.List.{list_any, AllByRecursion}
 use Rattle.std.specs.Cmp.Lexicographic.{pointwise}
 use Rattle.complex_core.specs.Labels.{IsFace, has, union, without, face_cmp}
 use Rattle.complex_core.specs.Rising.{rising}
-use Rattle.complex_core.specs.Spaces.{Space, IsComplex, IsFacet, over, beside, is_held}
+use Rattle.complex_core.specs.Complexes.{ComplexView, IsComplex, IsFacet, over, beside, is_held}
 use Rattle.flip_rules.specs.declared.flip.Flip.{Flip}
 use Rattle.flip_rules.specs.declared.flip.FlipFault.{FlipFault}
 use Rattle.flip_rules.specs.declared.flip.FlipFault.TheVariants as fault
@@ -12,8 +12,8 @@ use Rattle.flip_rules.specs.declared.flip.Illegal.{Illegal}
 use Rattle.flip_rules.specs.declared.flip.Illegal.TheVariants.{Shape, NotAFace, LinkDiffers, BIsFace}
 
 -- A ∪ (B less b), one for each b in B
-abbrev pub sides : List ℕ → List ℕ → List (List ℕ)
-sides a b = map (λ x. union a (without b x)) b
+abbrev pub join_boundary : List ℕ → List ℕ → List (List ℕ)
+join_boundary a b = map (λ x. union a (without b x)) b
 
 -- A and B aren't empty, share no label, and have d + 2 labels together
 abbrev pub has_shape : ℕ → List ℕ → List ℕ → Bool
@@ -24,15 +24,15 @@ same_sets = pointwise (pointwise nat_eq)
 
 -- the facets that contain A are exactly the A ∪ (B less b)
 abbrev pub link_is : List (List ℕ) → List ℕ → List ℕ → Bool
-link_is facets a b = same_sets (over facets a) (rising face_cmp (sides a b))
+link_is facets a b = same_sets (over facets a) (rising face_cmp (join_boundary a b))
 
 -- the first rule that the facets near A break: some contain A, and they are exactly the A ∪ (B less b)
 abbrev pub link_fault : List (List ℕ) → List ℕ → List ℕ → Result (Unit {0}) Illegal
 link_fault near_a a b = if is_held near_a a then (if link_is near_a a b then Ok tt else Err LinkDiffers) else Err NotAFace
 
 -- the first rule that the flip breaks, seen from lists of facets that have all those that contain A, and all those that contain B
-abbrev pub why_near : ℕ → List (List ℕ) → List (List ℕ) → List ℕ → List ℕ → Result (Unit {0}) Illegal
-why_near d near_a near_b a b =
+abbrev pub broken_rule_near : ℕ → List (List ℕ) → List (List ℕ) → List ℕ → List ℕ → Result (Unit {0}) Illegal
+broken_rule_near d near_a near_b a b =
     if has_shape d a b then
     (if is_held near_a a then
     (if link_is near_a a b then
@@ -42,20 +42,20 @@ why_near d near_a near_b a b =
     else Err Shape
 
 -- the first rule that the flip breaks
-abbrev pub why : Space → List ℕ → List ℕ → Result (Unit {0}) Illegal
-why k a b = why_near k.dim k.facets k.facets a b
+abbrev pub broken_rule : ComplexView → List ℕ → List ℕ → Result (Unit {0}) Illegal
+broken_rule k a b = broken_rule_near k.dim k.facets k.facets a b
 
 -- these lists have all facets of the complex that contain A, and all that contain B
-pub record IsNear (k : Space) (d : ℕ) (near_a near_b : List (List ℕ)) (a b : List ℕ) : Type 0 where
+pub record IsNear (k : ComplexView) (d : ℕ) (near_a near_b : List (List ℕ)) (a b : List ℕ) : Type 0 where
   pub dim : k.dim ≡ d
   pub first : over near_a a ≡ over k.facets a
   pub second : over near_b b ≡ over k.facets b
 
 -- the facets that contain A are taken out, and the (A less a) ∪ B are put in
-abbrev pub flipped : Space → List ℕ → List ℕ → Space
-flipped k a b = record { dim = k.dim; facets = rising face_cmp (beside k.facets a ++ sides b a) }
+abbrev pub flipped : ComplexView → List ℕ → List ℕ → ComplexView
+flipped k a b = record { dim = k.dim; facets = rising face_cmp (beside k.facets a ++ join_boundary b a) }
 
-abbrev pub if_legal : Result (Unit {0}) Illegal → Option Space → Option Space
+abbrev pub if_legal : Result (Unit {0}) Illegal → Option ComplexView → Option ComplexView
 if_legal (Ok u) after = after
 if_legal (Err e) after = None
 
@@ -65,9 +65,9 @@ pub record OfFaces (f : Flip) : Type 0 where
   pub second : IsFace f.b
 
 -- the flips one after another, each legal where it stands
-abbrev pub replay : Space → List Flip → Option Space
+abbrev pub replay : ComplexView → List Flip → Option ComplexView
 replay k [] = Some k
-replay k (f ∷ fs) = if_legal (why k f.a f.b) (replay (flipped k f.a f.b) fs)
+replay k (f ∷ fs) = if_legal (broken_rule k f.a f.b) (replay (flipped k f.a f.b) fs)
 
 -- why a flip isn't made
 abbrev pub FlipRefused : Result (Unit {0}) Illegal → FlipFault → Type 0
@@ -76,13 +76,13 @@ FlipRefused reason fault.Memory = Unit {0}
 
 -- after the flip (A, B), wherever it is legal, (C, D) is legal too, and makes the complex that was before
 abbrev pub LeadsBack : List ℕ → List ℕ → List ℕ → List ℕ → Type 0
-LeadsBack a b c d = (k : Space) → IsComplex k → why k a b ≡ Ok tt → (why (flipped k a b) c d ≡ Ok tt) × (flipped (flipped k a b) c d ≡ k)
+LeadsBack a b c d = (k : ComplexView) → IsComplex k → broken_rule k a b ≡ Ok tt → (broken_rule (flipped k a b) c d ≡ Ok tt) × (flipped (flipped k a b) c d ≡ k)
 
 -- the sides of B with A can be put in
 pub record CanPut (d : ℕ) (a b : List ℕ) : Type 0 where
   pub few : length b + length a ≤ 8
-  pub some : 0 < length (sides b a)
-  pub pure : AllByRecursion (IsFacet d) (sides b a)
+  pub some : 0 < length (join_boundary b a)
+  pub pure : AllByRecursion (IsFacet d) (join_boundary b a)
 
 -- ---- the same rule by rule
 
@@ -92,8 +92,8 @@ pub record Shaped (d : ℕ) (a b : List ℕ) : Type 0 where
   pub apart : (x : ℕ) → has a x ≡ true → has b x ≡ false
   pub sizes : length a + length b ≡ d + 2
 
-pub record Legal (k : Space) (a b : List ℕ) : Type 0 where
+pub record Legal (k : ComplexView) (a b : List ℕ) : Type 0 where
   pub shape : Shaped k.dim a b
   pub face : is_held k.facets a ≡ true
-  pub link : over k.facets a ≡ rising face_cmp (sides a b)
+  pub link : over k.facets a ≡ rising face_cmp (join_boundary a b)
   pub free : is_held k.facets b ≡ false

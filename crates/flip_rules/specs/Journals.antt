@@ -2,7 +2,7 @@
 use Rattle.std.specs.Prelude.{◌≡◌, ℕ, ◌≤◌, Bool, ◌&&◌, ◌||◌, nat_eq, List, [], ◌∷◌, ◌++◌, length, filter, Some}
 use Rattle.std.specs.List.{list_any, flat_map}
 use Rattle.complex_core.specs.Labels.{has}
-use Rattle.complex_core.specs.Spaces.{Space, over}
+use Rattle.complex_core.specs.Complexes.{ComplexView, over}
 use Rattle.flip_rules.specs.Flips.{replay}
 use Rattle.flip_rules.specs.declared.flip.Flip.{Flip}
 use Rattle.flip_rules.specs.Entries.{JournalEntry}
@@ -28,7 +28,7 @@ abbrev pub touches : List JournalEntry → ℕ → ℕ
 touches entries place = length (filter (entry_touches place) entries)
 
 -- the star of a place: the facets that contain it
-abbrev pub star_of : Space → ℕ → List (List ℕ)
+abbrev pub star_of : ComplexView → ℕ → List (List ℕ)
 star_of k place = over k.facets (place ∷ [])
 
 -- this beginning of the entries is the shortest one in which so many touch the place
@@ -39,10 +39,10 @@ pub record IsShortest (entries : List JournalEntry) (place count : ℕ) (front :
   pub least : (short more : List JournalEntry) → front ≡ short ++ more → touches short place ≡ count → more ≡ []
 
 -- these facets are the star of the place after the shortest beginning of the entries in which so many touch it
-pub record At (k : Space) (entries : List JournalEntry) (place count : ℕ) (facets : List (List ℕ)) : Type 0 where
+pub record At (k : ComplexView) (entries : List JournalEntry) (place count : ℕ) (facets : List (List ℕ)) : Type 0 where
   pub front : List JournalEntry
   pub shortest : IsShortest entries place count front
-  pub there : Space
+  pub there : ComplexView
   pub replays : replay k (flat front) ≡ Some there
   pub star : facets ≡ star_of there place
 
@@ -58,11 +58,11 @@ ShortestIsOne = (entries front other : List JournalEntry) (place count : ℕ) �
 
 -- so a place has one star for each count, where the flips of the entries come to an end
 abbrev pub StarsExist : Type 0
-StarsExist = (k m : Space) (entries : List JournalEntry) (place count : ℕ) → replay k (flat entries) ≡ Some m → count ≤ touches entries place → (facets : List (List ℕ)) × At k entries place count facets
+StarsExist = (k m : ComplexView) (entries : List JournalEntry) (place count : ℕ) → replay k (flat entries) ≡ Some m → count ≤ touches entries place → (facets : List (List ℕ)) × At k entries place count facets
 
 abbrev pub StarIsOne : Type 0
-StarIsOne = (k : Space) (entries : List JournalEntry) (place count : ℕ) (facets others : List (List ℕ)) → At k entries place count facets → At k entries place count others → facets ≡ others
+StarIsOne = (k : ComplexView) (entries : List JournalEntry) (place count : ℕ) (facets others : List (List ℕ)) → At k entries place count facets → At k entries place count others → facets ≡ others
 
 -- entries that follow don't change it
 abbrev pub StarStays : Type 0
-StarStays = (k : Space) (entries more : List JournalEntry) (place count : ℕ) (facets : List (List ℕ)) → At k entries place count facets → At k (entries ++ more) place count facets
+StarStays = (k : ComplexView) (entries more : List JournalEntry) (place count : ℕ) (facets : List (List ℕ)) → At k entries place count facets → At k (entries ++ more) place count facets

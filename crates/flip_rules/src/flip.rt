@@ -3,8 +3,8 @@ ghost use Rattle.std.specs.Prelude.{◌≡◌, ◌↔◌, IsOk, ◌≤◌, ◌<�
 ghost use Rattle.std.specs.List.{list_any};
 ghost use Rattle.std.specs.List.Sorted.{IsStrictlySortedBy};
 ghost use Rattle.complex_core.specs.Labels.{has, face_cmp, IsFace};
-ghost use Rattle.complex_core.specs.Spaces.{Space};
-ghost use Rattle.flip_rules.specs.Flips.{has_shape, link_fault, why, why_near, IsNear, flipped, FlipRefused, LeadsBack, CanPut, Legal, OfFaces};
+ghost use Rattle.complex_core.specs.Complexes.{ComplexView};
+ghost use Rattle.flip_rules.specs.Flips.{has_shape, link_fault, broken_rule, broken_rule_near, IsNear, flipped, FlipRefused, LeadsBack, CanPut, Legal, OfFaces};
 
 use crate::link::{are_sides, have_sides, is_held};
 use crate::sides::Sides;
@@ -91,7 +91,7 @@ fn check_link(near_a: &[Face], first: &Face, second: &Face) -> Result<(), Illega
 fn first_broken(dim: u32, near_a: &[Face], near_b: &[Face], flip: &Flip) -> Result<(), Illegal>
     requires low { dim ≤ 6 }
     requires rising { IsStrictlySortedBy face_cmp near_a.now }
-    ensures near { result ≡ why_near dim near_a.now near_b.now flip.now.a flip.now.b }
+    ensures near { result ≡ broken_rule_near dim near_a.now near_b.now flip.now.a flip.now.b }
     ensures first { IsFace flip.now.a }
     ensures second { IsFace flip.now.b }
 {
@@ -113,11 +113,11 @@ fn first_broken(dim: u32, near_a: &[Face], near_b: &[Face], flip: &Flip) -> Resu
 pub fn check_near(dim: u32, near_a: &[Face], near_b: &[Face], flip: &Flip) -> Result<(), Illegal>
     requires low { dim ≤ 6 }
     requires rising { IsStrictlySortedBy face_cmp near_a.now }
-    ensures near { result ≡ why_near dim near_a.now near_b.now flip.now.a flip.now.b }
+    ensures near { result ≡ broken_rule_near dim near_a.now near_b.now flip.now.a flip.now.b }
 
     // On every complex with these facets near A and B it is the first rule that the flip breaks.
-    ensures why { (k : Space) → IsNear k dim near_a.now near_b.now flip.now.a flip.now.b →
-        result ≡ why k flip.now.a flip.now.b }
+    ensures broken_rule { (k : ComplexView) → IsNear k dim near_a.now near_b.now flip.now.a flip.now.b →
+        result ≡ broken_rule k flip.now.a flip.now.b }
 
     // What a legal flip puts in are facets of that dimension.
     ensures facets { OnOk result (CanPut dim flip.now.a flip.now.b) }
@@ -131,7 +131,7 @@ pub fn check_near(dim: u32, near_a: &[Face], near_b: &[Face], flip: &Flip) -> Re
 /// Tells the first rule that a flip breaks on a complex. A flip is legal where it breaks none. It
 /// takes no memory.
 pub fn check(complex: &Complex, flip: &Flip) -> Result<(), Illegal>
-    ensures why { result ≡ why complex.now flip.now.a flip.now.b }
+    ensures broken_rule { result ≡ broken_rule complex.now flip.now.a flip.now.b }
 
     // The same rule by rule: a legal flip is exactly one that breaks none.
     ensures legal { IsOk result ↔ Legal complex.now flip.now.a flip.now.b }
@@ -171,13 +171,13 @@ pub fn index(flip: &Flip) -> u32
 /// Makes a flip on a complex, or leaves the complex as it is: exactly where the flip breaks a rule,
 /// or for want of memory.
 pub fn apply(complex: &mut Complex, flip: &Flip) -> Result<(), FlipFault>
-    ensures legal { OnOk result (why complex.old flip.now.a flip.now.b ≡ Ok tt) }
+    ensures legal { OnOk result (broken_rule complex.old flip.now.a flip.now.b ≡ Ok tt) }
     ensures ok { OnOk result (complex.new ≡ flipped complex.old flip.now.a flip.now.b) }
     ensures err { OnErr result (complex.new ≡ complex.old) }
-    ensures why { IfErr result (FlipRefused (why complex.old flip.now.a flip.now.b)) }
+    ensures broken_rule { IfErr result (FlipRefused (broken_rule complex.old flip.now.a flip.now.b)) }
 
     // A flip that breaks a rule is always told which, also where memory is short.
-    ensures told { (e : Illegal) → why complex.old flip.now.a flip.now.b ≡ Err e →
+    ensures told { (e : Illegal) → broken_rule complex.old flip.now.a flip.now.b ≡ Err e →
         result ≡ Err (FlipFault.Illegal e) }
 
     ensures faces { OfFaces flip.now }

@@ -3,7 +3,7 @@ ghost use Rattle.std.specs.Prelude.{◌≡◌, ◌≤◌, ◌+◌, ◌||◌, not
 ghost use Rattle.std.specs.List.{list_all};
 ghost use Rattle.std.specs.List.Sorted.{IsStrictlySortedBy};
 ghost use Rattle.complex_core.specs.Labels.{holds, face_cmp};
-ghost use Rattle.complex_core.specs.Spaces.{is_held, is_facet};
+ghost use Rattle.complex_core.specs.Complexes.{is_held, is_facet};
 ghost use Rattle.flip_rules.specs.Flips.{link_is};
 
 use crate::sides::Sides;

@@ -1,8 +1,8 @@
 // The facets that a flip takes out or puts in, one after another, in a value that takes no memory.
 ghost use Rattle.std.specs.Prelude.{◌≡◌, ◌≤◌, ◌+◌, ◌∷◌, [], length};
 ghost use Rattle.complex_core.specs.Labels.{union, without};
-ghost use Rattle.complex_core.specs.Spaces.{over};
-ghost use Rattle.flip_rules.specs.Flips.{sides};
+ghost use Rattle.complex_core.specs.Complexes.{over};
+ghost use Rattle.flip_rules.specs.Flips.{join_boundary};
 
 use complex_core::Face;
 use std::marker::Model;
@@ -43,7 +43,7 @@ impl Sides {
     /// The sides of the first set with the second: one for each label of the second, in its order.
     pub fn of(first: &Face, second: &Face) -> Sides
         requires { length first.now + length second.now ≤ 8 }
-        ensures { result ≡ sides first.now second.now }
+        ensures { result ≡ join_boundary first.now second.now }
     {
         let mut all = [Face::new(); 8];
         let labels = second.labels();

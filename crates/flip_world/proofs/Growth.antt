@@ -3,7 +3,7 @@ use Rattle.std.proofs.Common.{◌≡◌, inl, inr, ℕ, ◌+◌, ◌-◌, ◌≤
 use Rattle.std.proofs.lemmas.List.{get_or-set_same, get_or-set_other, get_or-replicate, length-replicate}
 use Rattle.std.proofs.Math.ListN.{get_or-eq_default}
 use Rattle.std.proofs.lemmas.Bool.{cases_lt}
-use Rattle.complex_core.specs.Spaces.{Space}
+use Rattle.complex_core.specs.Complexes.{ComplexView}
 use Rattle.flip_rules.specs.declared.flip.Flip.{Flip}
 use Rattle.flip_world.specs.declared.event.Event.{Event}
 use Rattle.flip_world.specs.declared.event.Event.TheVariants as event
@@ -77,7 +77,7 @@ pub step_grows : (c next : Core) (e : Event) (r : Result Told StepFault) → IfO
 step_grows c next e (Ok told) h same count w = row_grows count c next e told w h
 step_grows c next e (Err fault) h same count w = to_next (count + 1) next c same (more_room count c w)
 
-pub opened_within : (c : Core) (start : Space) (places workers : ℕ) → c ≡ opened start places workers → IsWithin 0 c
+pub opened_within : (c : Core) (start : ComplexView) (places workers : ℕ) → c ≡ opened start places workers → IsWithin 0 c
 opened_within c start places workers e = to_next 0 c (opened start places workers) e (record { journal = omega arith; pending = λ worker. nothing worker })
   where
     nothing : (worker : ℕ) → length {A = Flip} (get_or (replicate workers []) (worker - 1) []) ≤ 0

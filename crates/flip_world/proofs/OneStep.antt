@@ -2,7 +2,7 @@
 use Rattle.std.proofs.Common.{◌≡◌, ◌≢◌, ℕ, ◌<◌, ◌≤◌, Bool, true, false, nat_eq, nat_le, ◌||◌, ◌⊎◌, inl, inr, List, [], ◌∷◌, ◌++◌, map, length, Result, Ok, Err, sym, ◌∙◌, ap, refl, subst, arith, eq-eqb}
 use Rattle.std.proofs.lemmas.Bool.{true≢false, ne_eqb, le-leb}
 use Rattle.std.proofs.lemmas.Bool.Decides.{nat_tests}
-use Rattle.flip_rules.specs.Flips.{why}
+use Rattle.flip_rules.specs.Flips.{broken_rule}
 use Rattle.flip_rules.specs.declared.flip.Flip.{Flip}
 use Rattle.flip_rules.specs.declared.flip.Illegal.{Illegal}
 use Rattle.flip_rules.specs.declared.flip.Illegal.TheVariants.{Shape, NotAFace, LinkDiffers, BIsFace}
@@ -103,10 +103,10 @@ judged_by (Err reason) c worker f = (Err (refused.Illegal reason), c)
 
 -- the flip is judged by its owner
 abbrev HeldView : Core → ℕ → Flip → Outcome → Type 0
-HeldView c worker f o = Chosen (is_owned c worker) f (λ p. o ≡ (Err (refused.NotHeld p), c)) (o ≡ judged_by (why (seen_by c worker) f.a f.b) c worker f)
+HeldView c worker f o = Chosen (is_owned c worker) f (λ p. o ≡ (Err (refused.NotHeld p), c)) (o ≡ judged_by (broken_rule (seen_by c worker) f.a f.b) c worker f)
 
 abbrev ShapeView : Core → ℕ → Flip → Outcome → Type 0
-ShapeView c worker f o = ((why (seen_by c worker) f.a f.b ≡ Err Shape) × (o ≡ (Err (refused.Illegal Shape), c))) ⊎ ((why (seen_by c worker) f.a f.b ≢ Err Shape) × HeldView c worker f o)
+ShapeView c worker f o = ((broken_rule (seen_by c worker) f.a f.b ≡ Err Shape) × (o ≡ (Err (refused.Illegal Shape), c))) ⊎ ((broken_rule (seen_by c worker) f.a f.b ≢ Err Shape) × HeldView c worker f o)
 
 abbrev FlipView : Core → ℕ → Flip → Outcome → Type 0
 FlipView c worker f o = Chosen (is_place c) f (λ p. o ≡ (Err (refused.NoPlace p), c)) (ShapeView c worker f o)
@@ -115,12 +115,12 @@ shape_one : (c : Core) (worker : ℕ) (f : Flip) (o u : Outcome) → ShapeView c
 shape_one c worker f o u (inl h) (inl g) = h.1 ∙ sym g.1
 shape_one c worker f o u (inl h) (inr g) = absurd (g.0 h.0)
 shape_one c worker f o u (inr h) (inl g) = absurd (h.0 g.0)
-shape_one c worker f o u (inr h) (inr g) = chosen_one (is_owned c worker) f (λ p. (Err (refused.NotHeld p), c)) o u (o ≡ judged_by (why (seen_by c worker) f.a f.b) c worker f) (u ≡ judged_by (why (seen_by c worker) f.a f.b) c worker f) (λ a b. a ∙ sym b) h.1 g.1
+shape_one c worker f o u (inr h) (inr g) = chosen_one (is_owned c worker) f (λ p. (Err (refused.NotHeld p), c)) o u (o ≡ judged_by (broken_rule (seen_by c worker) f.a f.b) c worker f) (u ≡ judged_by (broken_rule (seen_by c worker) f.a f.b) c worker f) (λ a b. a ∙ sym b) h.1 g.1
 
 flip_one : (c : Core) (worker : ℕ) (f : Flip) (o u : Outcome) → FlipView c worker f o → FlipView c worker f u → o ≡ u
 flip_one c worker f o u h g = chosen_one (is_place c) f (λ p. (Err (refused.NoPlace p), c)) o u (ShapeView c worker f o) (ShapeView c worker f u) (shape_one c worker f o u) h g
 
-held_view : (c : Core) (worker : ℕ) (f : Flip) (o : Outcome) → FlipHeld c worker f → o ≡ judged_by (why (seen_by c worker) f.a f.b) c worker f → FlipView c worker f o
+held_view : (c : Core) (worker : ℕ) (f : Flip) (o : Outcome) → FlipHeld c worker f → o ≡ judged_by (broken_rule (seen_by c worker) f.a f.b) c worker f → FlipView c worker f o
 held_view c worker f o h e = inr (h.fits.places, inr (h.fits.shape, inr (h.owned, e)))
 
 flip_told : (c next : Core) (worker : ℕ) (f : Flip) (told : Told) → FlipTold c worker f told next → FlipView c worker f (Ok told, next)

@@ -4,9 +4,9 @@ use Rattle.std.proofs.lemmas.Bool.{true≢false}
 use Rattle.std.proofs.lemmas.List.{get_or_default, append-nil, length-set, get_or-set_same, get_or-set_other}
 use Rattle.std.proofs.lemmas.List.Elements.{filter-append}
 use Rattle.complex_core.specs.Labels.{IsFace}
-use Rattle.complex_core.specs.Spaces.{Space}
+use Rattle.complex_core.specs.Complexes.{ComplexView}
 use Rattle.complex_core.proofs.Laws.{nat_eq_is}
-use Rattle.flip_rules.specs.Flips.{why}
+use Rattle.flip_rules.specs.Flips.{broken_rule}
 use Rattle.flip_rules.specs.Entries.{JournalEntry}
 use Rattle.flip_rules.specs.declared.flip.Flip.{Flip}
 use Rattle.flip_world.specs.Cores.{Core, IsWorker, after, workers_of, pending_of, with_owner, with_pending, seen_by, of_worker}
@@ -16,7 +16,7 @@ use Rattle.flip_world.specs.Worlds.{IsWorld}
 use Rattle.flip_world.proofs.Rows.{flip_keeps, commit_keeps, commit_complex, same_worker}
 
 -- the owner of one place changes
-other_owner : (c : Core) (k : Space) (written : List ℕ) (place owner : ℕ) → IsWorld c k written → Serial (with_owner c place owner) → IsWorld (with_owner c place owner) k written
+other_owner : (c : Core) (k : ComplexView) (written : List ℕ) (place owner : ℕ) → IsWorld c k written → Serial (with_owner c place owner) → IsWorld (with_owner c place owner) k written
 other_owner c k written place owner w s = record {
   start = w.start;
   complex_is = w.complex_is;
@@ -27,7 +27,7 @@ other_owner c k written place owner w s = record {
 }
 
 -- the pending flips of one worker change
-other_pending : (c : Core) (k : Space) (written : List ℕ) (worker : ℕ) (flips : List Flip) → IsWorld c k written → Serial (with_pending c worker flips) → IsWorld (with_pending c worker flips) k written
+other_pending : (c : Core) (k : ComplexView) (written : List ℕ) (worker : ℕ) (flips : List Flip) → IsWorld c k written → Serial (with_pending c worker flips) → IsWorld (with_pending c worker flips) k written
 other_pending c k written worker flips w s = record {
   start = w.start;
   complex_is = w.complex_is;
@@ -37,18 +37,18 @@ other_pending c k written worker flips w s = record {
   serial = s;
 }
 
-abbrev Of : Space → List ℕ → Core → Type 0
+abbrev Of : ComplexView → List ℕ → Core → Type 0
 Of k written c = IsWorld c k written
 
 -- what lets a worker make a flip
 pub record MayFlip (c : Core) (worker : ℕ) (f : Flip) : Type 0 where
   pub worker_is : IsWorker c worker
   pub held : FlipHeld c worker f
-  pub legal : why (seen_by c worker) f.a f.b ≡ Ok tt
+  pub legal : broken_rule (seen_by c worker) f.a f.b ≡ Ok tt
   pub first : IsFace f.a
   pub second : IsFace f.b
 
-pub flip_parts : (c d : Core) (k : Space) (written : List ℕ) (worker : ℕ) (f : Flip) (flips : List Flip) → c ≡ d → IsWorld c k written → MayFlip d worker f → flips ≡ pending_of d worker ++ f ∷ [] → IsWorld (with_pending c worker flips) k written
+pub flip_parts : (c d : Core) (k : ComplexView) (written : List ℕ) (worker : ℕ) (f : Flip) (flips : List Flip) → c ≡ d → IsWorld c k written → MayFlip d worker f → flips ≡ pending_of d worker ++ f ∷ [] → IsWorld (with_pending c worker flips) k written
 flip_parts c d k written worker f flips same w m e =
     let P : Core → Type 0 = λ x. MayFlip x worker f in
     let may : MayFlip c worker f = subst P (sym same) m in
@@ -85,7 +85,7 @@ counted_push c written worker w n counted other v =
     differs : (n m : ℕ) → nat_eq n m ≡ false → n ≡ m → ⊥
     differs n m e f = true≢false (sym (eq-eqb n m f) ∙ e)
 
-pub commit_world : (c : Core) (k m : Space) (written : List ℕ) (worker : ℕ) → IsWorld c k written → IsWorker c worker → m ≡ seen_by c worker → IsWorld (committed c 0 worker) m (set written (worker - 1) (length (of_worker c.journal worker) + 1))
+pub commit_world : (c : Core) (k m : ComplexView) (written : List ℕ) (worker : ℕ) → IsWorld c k written → IsWorker c worker → m ≡ seen_by c worker → IsWorld (committed c 0 worker) m (set written (worker - 1) (length (of_worker c.journal worker) + 1))
 commit_world c k m written worker w v e = record {
   start = w.start;
   complex_is = e ∙ sym (commit_complex c 0 worker w.start.rising w.serial v);
@@ -110,18 +110,18 @@ flips_at c d worker flips e w g =
     let v : IsWorker c worker = back_worker c d worker e w in
     indexed c.pending (worker - 1) flips [] (omega (arith, v.low, v.high)) g ∙ ap (λ (x : Core). pending_of x worker) e
 
-pub seq_at : (c d : Core) (k : Space) (written : List ℕ) (worker seq : ℕ) → c ≡ d → IsWorld c k written → IsWorker d worker → seq ≡ get_or written (worker - 1) seq → seq ≡ length (of_worker c.journal worker)
+pub seq_at : (c d : Core) (k : ComplexView) (written : List ℕ) (worker seq : ℕ) → c ≡ d → IsWorld c k written → IsWorker d worker → seq ≡ get_or written (worker - 1) seq → seq ≡ length (of_worker c.journal worker)
 seq_at c d k written worker seq e w u g =
     let v : IsWorker c worker = back_worker c d worker e u in
     indexed written (worker - 1) seq 0 (omega (arith, v.low, v.high, w.each_worker)) g ∙ w.counted worker v
 
-pub seq_fits : (c d : Core) (k : Space) (written : List ℕ) (worker seq : ℕ) → c ≡ d → IsWorld c k written → IsWorker d worker → seq ≡ get_or written (worker - 1) seq → length d.journal < 2 ^ 32 - 1 → seq + 1 < 2 ^ 32
+pub seq_fits : (c d : Core) (k : ComplexView) (written : List ℕ) (worker seq : ℕ) → c ≡ d → IsWorld c k written → IsWorker d worker → seq ≡ get_or written (worker - 1) seq → length d.journal < 2 ^ 32 - 1 → seq + 1 < 2 ^ 32
 seq_fits c d k written worker seq e w u g few =
     let n : seq ≡ length (of_worker c.journal worker) = seq_at c d k written worker seq e w u g in
     let m : length c.journal ≡ length d.journal = ap (λ (x : Core). length x.journal) e in
     omega (arith, n, m, few, few_entries c.journal worker)
 
-pub commit_parts : (c d : Core) (k m : Space) (written : List ℕ) (worker seq : ℕ) (flips read made cleared : List Flip) (entry : JournalEntry) (journal : List JournalEntry) → c ≡ d → IsWorld c k written → IsWorker d worker → seq ≡ get_or written (worker - 1) seq → flips ≡ read → read ≡ get_or c.pending (worker - 1) read → made ≡ get_or c.pending (worker - 1) made → m ≡ after k made → cleared ≡ [] → entry ≡ record { round = 0; worker = worker; seq = seq; flips = flips } → journal ≡ c.journal ++ entry ∷ [] → IsWorld (record { start = c.start; owners = set c.owners 0 0; pending = set c.pending (worker - 1) cleared; journal = journal }) m (set written (worker - 1) (seq + 1))
+pub commit_parts : (c d : Core) (k m : ComplexView) (written : List ℕ) (worker seq : ℕ) (flips read made cleared : List Flip) (entry : JournalEntry) (journal : List JournalEntry) → c ≡ d → IsWorld c k written → IsWorker d worker → seq ≡ get_or written (worker - 1) seq → flips ≡ read → read ≡ get_or c.pending (worker - 1) read → made ≡ get_or c.pending (worker - 1) made → m ≡ after k made → cleared ≡ [] → entry ≡ record { round = 0; worker = worker; seq = seq; flips = flips } → journal ≡ c.journal ++ entry ∷ [] → IsWorld (record { start = c.start; owners = set c.owners 0 0; pending = set c.pending (worker - 1) cleared; journal = journal }) m (set written (worker - 1) (seq + 1))
 commit_parts c d k m written worker seq flips read made cleared entry journal same w u e1 e0 e2 e3 e4 e5 e6 e7 =
     let v : IsWorker c worker = back_worker c d worker same u in
     let inside : worker - 1 < length c.pending = omega (arith, v.low, v.high) in

@@ -5,9 +5,9 @@ use Rattle.std.proofs.lemmas.Bool.Decides.{nat_tests}
 use Rattle.std.proofs.lemmas.List.{append-nil, length-set, get_or-set_same, get_or-set_other}
 use Rattle.std.proofs.lemmas.List.Elements.{filter-append}
 use Rattle.complex_core.specs.Labels.{has, IsFace}
-use Rattle.complex_core.specs.Spaces.{Space}
+use Rattle.complex_core.specs.Complexes.{ComplexView}
 use Rattle.complex_core.proofs.Laws.{nat_eq_is}
-use Rattle.flip_rules.specs.Flips.{why, replay}
+use Rattle.flip_rules.specs.Flips.{broken_rule, replay}
 use Rattle.flip_rules.specs.Entries.{JournalEntry}
 use Rattle.flip_rules.specs.Journals.{flip_touches, flat}
 use Rattle.flip_rules.specs.declared.flip.Flip.{Flip}
@@ -112,7 +112,7 @@ label_of_flip f p fa fb t =
       | false ↦ λ _ g. label_low f.b p fb g
     ] refl t
 
-pub flip_keeps : (c : Core) (worker : ℕ) (f : Flip) → Serial c → IsWorker c worker → IsFace f.a → IsFace f.b → EachLabel (is_place c) f → EachLabel (is_owned c worker) f → why (seen_by c worker) f.a f.b ≡ Ok tt → Serial (with_pending c worker (pending_of c worker ++ f ∷ []))
+pub flip_keeps : (c : Core) (worker : ℕ) (f : Flip) → Serial c → IsWorker c worker → IsFace f.a → IsFace f.b → EachLabel (is_place c) f → EachLabel (is_owned c worker) f → broken_rule (seen_by c worker) f.a f.b ≡ Ok tt → Serial (with_pending c worker (pending_of c worker ++ f ∷ []))
 flip_keeps c worker f s v fa fb places owned legal = other_pending c worker (pending_of c worker ++ f ∷ []) s v
     (some_replay (complex_of c) _ (pending_of c worker ++ f ∷ []) (replay_then (complex_of c) (seen_by c worker) (pending_of c worker) f (replay_end (complex_of c) (pending_of c worker) (s.pending worker v)) legal))
     (λ place t.
@@ -145,7 +145,7 @@ numbers_push n (d ∷ ds) e seq h = head_tail d.seq n _ _ (heads d.seq n _ _ h) 
     head_tail x y xs ys e f = cc
 
 module _ (c : Core) (round worker : ℕ) (rises : Rises c.start) (s : Serial c) (v : IsWorker c worker) where
-  was : Space
+  was : ComplexView
   was = complex_of c
 
   -- the complex after the commit is what the worker saw
@@ -200,7 +200,7 @@ module _ (c : Core) (round worker : ℕ) (rises : Rises c.start) (s : Serial c) 
   commit_keeps = record {
     replays = some_replay c.start (seen_by c worker) (flat (committed c round worker).journal) commit_replays;
     pending = λ other w.
-        let P : Space → Type 0 = λ k. IsSome (replay k (pending_of (with_pending c worker []) other)) in
+        let P : ComplexView → Type 0 = λ k. IsSome (replay k (pending_of (with_pending c worker []) other)) in
         subst P (sym commit_complex) (commit_pending other (same_worker c worker other [] (record { low = w.low; high = w.high })));
     owned = λ other place w. commit_owned other place (same_worker c worker other [] (record { low = w.low; high = w.high }));
     numbered = commit_numbered;

@@ -5,7 +5,7 @@ use Rattle.flip_rules.specs.Flips.{replay}
 use Rattle.std.specs.List.{AllByRecursion}
 use Rattle.std.proofs.lemmas.Bool.{true≢false}
 use Rattle.complex_core.specs.Labels.{IsFace}
-use Rattle.complex_core.specs.Spaces.{Space}
+use Rattle.complex_core.specs.Complexes.{ComplexView}
 use Rattle.flip_rules.specs.declared.flip.Flip.{Flip}
 use Rattle.flip_world.specs.declared.event.Event.{Event}
 use Rattle.flip_world.specs.declared.event.Event.TheVariants as event
@@ -78,9 +78,9 @@ runs_from : (c : Core) (turns : List Turn) → Rises c.start → Serial c → Is
 runs_from c [] r s h = tt
 runs_from c (t ∷ ts) r s h =
     let n : Next c t.next = step_next c t.next t.event t.answer r s h.0 h.1 in
-    (n.0, runs_from t.next ts (let P : Space → Type 0 = λ k. Rises k in subst P (sym n.1) r) n.0 h.2)
+    (n.0, runs_from t.next ts (let P : ComplexView → Type 0 = λ k. Rises k in subst P (sym n.1) r) n.0 h.2)
 
-pub opened_serial : (start : Space) (places workers : ℕ) → Serial (opened start places workers)
+pub opened_serial : (start : ComplexView) (places workers : ℕ) → Serial (opened start places workers)
 opened_serial start places workers = record {
   replays = refl;
   pending = λ worker w.

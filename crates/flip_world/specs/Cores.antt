@@ -1,6 +1,6 @@
 -- What contracts see of a world: places with owners, workers with pending flips, and a journal.
 use Rattle.std.specs.Prelude.{ℕ, ◌+◌, ◌-◌, ◌<◌, ◌≤◌, nat_eq, List, [], length, filter, get_or, set, replicate, unwrap_or}
-use Rattle.complex_core.specs.Spaces.{Space}
+use Rattle.complex_core.specs.Complexes.{ComplexView}
 use Rattle.flip_rules.specs.Flips.{replay}
 use Rattle.flip_rules.specs.Entries.{JournalEntry}
 use Rattle.flip_rules.specs.Journals.{flat}
@@ -9,13 +9,13 @@ use Rattle.flip_rules.specs.declared.flip.Flip.{Flip}
 -- the owners of the places from 0, 0 meaning free, and the pending flips of the workers from 1;
 -- place 0 is the journal's, and the others are labels
 pub record Core : Type 0 where
-  pub start : Space
+  pub start : ComplexView
   pub owners : List ℕ
   pub pending : List (List Flip)
   pub journal : List JournalEntry
 
 -- all places are free, nothing is pending, the journal is empty
-abbrev pub opened : Space → ℕ → ℕ → Core
+abbrev pub opened : ComplexView → ℕ → ℕ → Core
 opened start places workers = record { start = start; owners = replicate (places + 1) 0; pending = replicate workers []; journal = [] }
 
 -- the greatest place, and the number of workers
@@ -45,15 +45,15 @@ abbrev pub with_pending : Core → ℕ → List Flip → Core
 with_pending c worker flips = record c { pending = set c.pending (worker - 1) flips }
 
 -- the end of a replay; the complex itself, where the replay has none
-abbrev pub after : Space → List Flip → Space
+abbrev pub after : ComplexView → List Flip → ComplexView
 after k flips = unwrap_or (replay k flips) k
 
 -- the complex of the core: the start after the journal's flips
-abbrev pub complex_of : Core → Space
+abbrev pub complex_of : Core → ComplexView
 complex_of c = after c.start (flat c.journal)
 
 -- what a worker sees: that complex after its own pending flips
-abbrev pub seen_by : Core → ℕ → Space
+abbrev pub seen_by : Core → ℕ → ComplexView
 seen_by c worker = after (complex_of c) (pending_of c worker)
 
 -- the entries of a worker, in order

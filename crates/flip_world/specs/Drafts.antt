@@ -4,12 +4,12 @@ use Rattle.std.specs.List.{AllByRecursion}
 use Rattle.std.specs.List.Sorted.{IsStrictlySortedBy}
 use Rattle.complex_core.specs.Labels.{face_cmp}
 use Rattle.complex_core.specs.Rising.{rising}
-use Rattle.complex_core.specs.Spaces.{Space, IsComplex, IsFacet, over, staying}
+use Rattle.complex_core.specs.Complexes.{ComplexView, IsComplex, IsFacet, over, staying}
 use Rattle.flip_rules.specs.Flips.{replay}
 use Rattle.flip_rules.specs.declared.flip.Flip.{Flip}
 
 -- the flips lead from k to m by one exchange of facets
-pub record Exchanges (k m : Space) (flips : List Flip) (out more : List (List ℕ)) : Type 0 where
+pub record Exchanges (k m : ComplexView) (flips : List Flip) (out more : List (List ℕ)) : Type 0 where
   pub facets : m.facets ≡ rising face_cmp (staying k.facets out ++ more)
   pub dim : m.dim ≡ k.dim
   pub complex : IsComplex m
@@ -20,8 +20,8 @@ pub record Exchanges (k m : Space) (flips : List Flip) (out more : List (List �
 pub record IsDraft (flips : List Flip) (out more : List (List ℕ)) : Type 0 where
   pub out_rises : IsStrictlySortedBy face_cmp out
   pub more_rises : IsStrictlySortedBy face_cmp more
-  pub exchanges : (k m : Space) → IsComplex k → replay k flips ≡ Some m → Exchanges k m flips out more
+  pub exchanges : (k m : ComplexView) → IsComplex k → replay k flips ≡ Some m → Exchanges k m flips out more
 
 -- wherever a run has all facets of the complex over a set, these facets have all facets over it after the flips
 abbrev pub SeenOver : List Flip → List (List ℕ) → List ℕ → List (List ℕ) → Type 0
-SeenOver flips run set near = (k m : Space) → IsComplex k → replay k flips ≡ Some m → over run set ≡ over k.facets set → over near set ≡ over m.facets set
+SeenOver flips run set near = (k m : ComplexView) → IsComplex k → replay k flips ≡ Some m → over run set ≡ over k.facets set → over near set ≡ over m.facets set

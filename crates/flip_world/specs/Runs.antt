@@ -2,7 +2,7 @@
 use Rattle.std.specs.Prelude.{◌≡◌, ℕ, List, [], ◌∷◌, map, Result}
 use Rattle.std.specs.List.{AllByRecursion}
 use Rattle.complex_core.specs.Labels.{IsFace}
-use Rattle.complex_core.specs.Spaces.{Space, IsComplex}
+use Rattle.complex_core.specs.Complexes.{ComplexView, IsComplex}
 use Rattle.flip_world.specs.declared.event.Event.{Event}
 use Rattle.flip_world.specs.declared.event.Event.TheVariants as event
 use Rattle.flip_world.specs.declared.event.Told.{Told}
@@ -29,7 +29,7 @@ IsRun c (t ∷ ts) = IsEvent t.event × Step c t.event t.answer t.next × IsRun 
 
 -- from an opened core, over every list of events of any workers, the core is serial after each event
 abbrev pub RunsAreSerial : Type 0
-RunsAreSerial = (start : Space) (places workers : ℕ) (turns : List Turn) → IsComplex start → IsRun (opened start places workers) turns → AllByRecursion (λ t. Serial t.next) turns
+RunsAreSerial = (start : ComplexView) (places workers : ℕ) (turns : List Turn) → IsComplex start → IsRun (opened start places workers) turns → AllByRecursion (λ t. Serial t.next) turns
 
 -- what a rollback leaves
 pub record SameButPending (c next : Core) : Type 0 where

@@ -1,6 +1,6 @@
 -- One event: what it is told or why it is refused, and the core after it, by the row of the event.
 use Rattle.std.specs.Prelude.{◌≡◌, ◌≢◌, true, false, ℕ, ◌<◌, ◌≤◌, Bool, nat_le, nat_eq, [], ◌∷◌, ◌++◌, length, Result, Ok, Err}
-use Rattle.flip_rules.specs.Flips.{why}
+use Rattle.flip_rules.specs.Flips.{broken_rule}
 use Rattle.flip_rules.specs.Entries.{JournalEntry}
 use Rattle.flip_rules.specs.Journals.{flip_touches}
 use Rattle.flip_rules.specs.declared.flip.Flip.{Flip}
@@ -51,7 +51,7 @@ ClaimTold c worker place other next = ⊥
 -- the flip stands on places and has the sizes of a flip
 pub record FlipFits (c : Core) (worker : ℕ) (f : Flip) : Type 0 where
   pub places : EachLabel (is_place c) f
-  pub shape : why (seen_by c worker) f.a f.b ≢ Err Shape
+  pub shape : broken_rule (seen_by c worker) f.a f.b ≢ Err Shape
 
 -- the worker owns each of its labels too
 pub record FlipHeld (c : Core) (worker : ℕ) (f : Flip) : Type 0 where
@@ -60,9 +60,9 @@ pub record FlipHeld (c : Core) (worker : ℕ) (f : Flip) : Type 0 where
 
 abbrev pub FlipRefused : Core → ℕ → Flip → Refused → Type 0
 FlipRefused c worker f (refused.NoPlace p) = IsLeastFailing (is_place c) f p
-FlipRefused c worker f (refused.Illegal Shape) = EachLabel (is_place c) f × (why (seen_by c worker) f.a f.b ≡ Err Shape)
+FlipRefused c worker f (refused.Illegal Shape) = EachLabel (is_place c) f × (broken_rule (seen_by c worker) f.a f.b ≡ Err Shape)
 FlipRefused c worker f (refused.NotHeld p) = FlipFits c worker f × IsLeastFailing (is_owned c worker) f p
-FlipRefused c worker f (refused.Illegal reason) = FlipHeld c worker f × (why (seen_by c worker) f.a f.b ≡ Err reason)
+FlipRefused c worker f (refused.Illegal reason) = FlipHeld c worker f × (broken_rule (seen_by c worker) f.a f.b ≡ Err reason)
 FlipRefused c worker f other = ⊥
 
 -- why a flip isn't made: refused by its row, or for want of memory
@@ -72,7 +72,7 @@ FlipAnswer c worker f fault.Memory = Unit {0}
 
 -- the flip is legal after the pending ones, and is appended to them
 abbrev pub FlipTold : Core → ℕ → Flip → Told → Core → Type 0
-FlipTold c worker f Flipped next = FlipHeld c worker f × (why (seen_by c worker) f.a f.b ≡ Ok tt) × (next ≡ with_pending c worker (pending_of c worker ++ f ∷ []))
+FlipTold c worker f Flipped next = FlipHeld c worker f × (broken_rule (seen_by c worker) f.a f.b ≡ Ok tt) × (next ≡ with_pending c worker (pending_of c worker ++ f ∷ []))
 FlipTold c worker f other next = ⊥
 
 -- ---- Rollback

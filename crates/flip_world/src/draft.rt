@@ -3,7 +3,7 @@ ghost use Rattle.std.specs.Prelude.{◌≡◌, ◌+◌, ◌≤◌, ◌<◌, [], 
 ghost use Rattle.std.specs.List.Sorted.{IsStrictlySortedBy};
 ghost use Rattle.complex_core.specs.Labels.{face_cmp};
 ghost use Rattle.complex_core.specs.Rising.{rising};
-ghost use Rattle.complex_core.specs.Spaces.{IsComplex, over, staying, is_facet};
+ghost use Rattle.complex_core.specs.Complexes.{IsComplex, over, staying, is_facet};
 ghost use Rattle.flip_rules.specs.Flips.{replay};
 ghost use Rattle.flip_world.specs.Cores.{after};
 ghost use Rattle.flip_world.specs.Drafts.{SeenOver};

@@ -1,6 +1,6 @@
 // Whether a worker may do what an event asks.
 ghost use Rattle.std.specs.Prelude.{◌≡◌, ◌≤◌, ◌+◌, ℕ, nat_le, nat_eq, not, find, get_or, length, Ok, IfOk, IsSome, MatchOption, OnOk};
-ghost use Rattle.flip_rules.specs.Flips.{why, replay};
+ghost use Rattle.flip_rules.specs.Flips.{broken_rule, replay};
 ghost use Rattle.flip_world.specs.Cores.{after};
 ghost use Rattle.flip_world.specs.Labels.{lesser};
 ghost use Rattle.flip_world.specs.Steps.{EachLabel, IsLeastFailing};
@@ -75,7 +75,7 @@ pub(crate) fn judged(
     flip: &Flip,
 ) -> Result<Result<(), Illegal>, AllocError>
     requires { IsSome (replay complex.now draft.now) }
-    ensures why { IfOk result (λ answer. answer ≡ why (after complex.now draft.now) flip.now.a flip.now.b) }
+    ensures broken_rule { IfOk result (λ answer. answer ≡ broken_rule (after complex.now draft.now) flip.now.a flip.now.b) }
     ensures few { IfOk result (λ answer. OnOk answer (length flip.now.a + length flip.now.b ≤ 8)) }
 {
     if flip.a.is_empty() || flip.b.is_empty() {

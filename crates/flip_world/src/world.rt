@@ -1,8 +1,8 @@
 // The core: one step for each event.
 ghost use Rattle.std.specs.Prelude.{◌≡◌, ℕ, ◌<◌, ◌≤◌, ◌-◌, ◌+◌, ◌^◌, [], length, replicate, Ok, Err, Some, MatchOption, IfOk, OnOk, OnErr, IfErr, IsTrue, ◌↔◌};
 ghost use Rattle.std.specs.List.{AllByRecursion, flat_map};
-ghost use Rattle.complex_core.specs.Spaces.{IsComplex};
-ghost use Rattle.flip_rules.specs.Flips.{replay, why};
+ghost use Rattle.complex_core.specs.Complexes.{IsComplex};
+ghost use Rattle.flip_rules.specs.Flips.{replay, broken_rule};
 ghost use Rattle.flip_rules.specs.Journals.{flat};
 ghost use Rattle.flip_rules.specs.declared.flip.Illegal.TheVariants.{Shape};
 ghost use Rattle.flip_world.specs.Cores.{Core, IsWorker, IsWithin, places_of, owner_of, pending_of, opened, complex_of, seen_by};
@@ -224,7 +224,7 @@ impl World {
     // The first rule that the flip breaks, where the worker sees it.
     fn judged(&self, worker: u16, flip: &Flip) -> Result<Result<(), Illegal>, AllocError>
         requires { IsWorker self.now worker }
-        ensures why { IfOk result (λ answer. answer ≡ why (seen_by self.now worker) flip.now.a flip.now.b) }
+        ensures broken_rule { IfOk result (λ answer. answer ≡ broken_rule (seen_by self.now worker) flip.now.a flip.now.b) }
         ensures few { IfOk result (λ answer. OnOk answer (length flip.now.a + length flip.now.b ≤ 8)) }
     {
         judged(&self.complex, &self.drafts[worker as usize - 1], flip)
@@ -234,7 +234,7 @@ impl World {
     fn may_flip(&self, worker: u16, flip: &Flip) -> Result<(), StepFault>
         requires { IsWorker self.now worker }
         ensures held { OnOk result (FlipHeld self.now worker flip.now) }
-        ensures legal { OnOk result (why (seen_by self.now worker) flip.now.a flip.now.b ≡ Ok tt) }
+        ensures legal { OnOk result (broken_rule (seen_by self.now worker) flip.now.a flip.now.b ≡ Ok tt) }
         ensures few { OnOk result (length flip.now.a + length flip.now.b ≤ 8) }
         ensures refused { IfErr result (FlipAnswer self.now worker flip.now) }
     {

@@ -3,7 +3,7 @@ use Rattle.std.proofs.Common.{◌≡◌, ◌≢◌, ◌⊎◌, ℕ, ◌<◌, Boo
 use Rattle.std.specs.List.{AllByRecursion}
 use mathlib.Core.Option.{some}
 use Rattle.complex_core.specs.Labels.{has}
-use Rattle.complex_core.specs.Spaces.{Space}
+use Rattle.complex_core.specs.Complexes.{ComplexView}
 use Rattle.complex_core.proofs.Laws.{or_left, or_right, nat_eq_same}
 use Rattle.flip_rules.specs.Flips.{replay, OfFaces}
 use Rattle.star_laws.specs.Stars.{flips_touch, AlikeOn, EndAlikeOn}
@@ -13,38 +13,38 @@ use Rattle.board_rule.specs.Items.{item, has_item}
 use Rattle.board_rule.specs.Plays.{Sees, IsRefused}
 use Rattle.board_rule.specs.Tries.{at_last, noted_at, refused_at, one_more}
 use Rattle.board_rule.specs.Views.{home, star_in, with_item, counted}
-use Rattle.board_rule.specs.declared.data.Home.{Home as HomeOf}
+use Rattle.board_rule.specs.declared.data.VersionedStar.{VersionedStar}
 use Rattle.board_rule.specs.declared.data.Slot.TheVariants.{Home}
-use Rattle.board_rule.specs.declared.view.Hand.{Hand}
+use Rattle.board_rule.specs.declared.view.PassView.{PassView}
 use Rattle.board_rule.proofs.Items.{tested, off, some_of, has_some, item_cons, item_past, has_more}
 use Rattle.vertex_claims.specs.Passes.{know, slot, Puts, SameSlots}
 use Rattle.vertex_claims.specs.declared.pass.Pass.{Pass}
-use Rattle.held_stars.specs.Holding.{IsKnown, Made, Restorable, Story, Going, Ends}
+use Rattle.held_stars.specs.Holding.{IsKnown, Made, Restorable, StartedTry, Going, Ends}
 use Rattle.held_stars.specs.declared.hold.Hold.{Hold}
 use Rattle.held_stars.specs.declared.stopped.Stopped.{Stopped}
 use Rattle.held_stars.specs.declared.stopped.Stopped.TheVariants.{Busy, Quit}
 use Rattle.held_stars.proofs.MadeFlips.{untouched, made_restorable}
 use Rattle.complex_core.proofs.Members.{has_snoc}
 
-alike_end : (held : ℕ → Bool) (m : Space) (x y : Option Space) → x ≡ Some m → EndAlikeOn held x y → (n : Space) × (y ≡ Some n) × AlikeOn held m n
-alike_end held m (Some k) (Some n) e h = let i : k ≡ m = cc in (n, refl, subst (λ (j : Space). AlikeOn held j n) i h)
+alike_end : (held : ℕ → Bool) (m : ComplexView) (x y : Option ComplexView) → x ≡ Some m → EndAlikeOn held x y → (n : ComplexView) × (y ≡ Some n) × AlikeOn held m n
+alike_end held m (Some k) (Some n) e h = let i : k ≡ m = cc in (n, refl, subst (λ (j : ComplexView). AlikeOn held j n) i h)
 alike_end held m (Some k) None e h = absurd h
 alike_end held m None y e h = let f : None ≡ Some m = e in cc
 
-each_known : (v w : List (ℕ × HomeOf)) (cs : List VertexStar) → ((q : ℕ) (x : HomeOf) → item v q ≡ some x → item w q ≡ some x) → AllByRecursion (IsKnown v) cs → AllByRecursion (IsKnown w) cs
+each_known : (v w : List (ℕ × VersionedStar)) (cs : List VertexStar) → ((q : ℕ) (x : VersionedStar) → item v q ≡ some x → item w q ≡ some x) → AllByRecursion (IsKnown v) cs → AllByRecursion (IsKnown w) cs
 each_known v w [] f h = tt
 each_known v w (c ∷ cs) f h = ((h.0.0, f c.vertex h.0.0 h.0.1, h.0.2), each_known v w cs f h.1)
 
 -- what a claim of one more place leaves
-pub record Claimed (a b : Pass) (n : Hold) (now : Space) : Type 0 where
-  pub complex : Space
+pub record Claimed (a b : Pass) (n : Hold) (now : ComplexView) : Type 0 where
+  pub complex : ComplexView
   pub made : Made b n complex
   pub stars : (q : ℕ) → has_item (know a).items q ≡ true → star_in complex q ≡ star_in now q
 
 -- the stars that were held are those of another complex now, on which the flips replay too
-pub claimed : (a b : Pass) (h n : Hold) (now : Space) (p : ℕ) (x : HomeOf) (k : Space) → Made a h now → know b ≡ with_item (know a) p x k → Puts a b p (some (Home x)) → has_item (know a).items p ≡ false
-    → n.flips.items ≡ h.flips.items → n.copies.items ≡ h.copies.items → n.places.items ≡ h.places.items ++ p ∷ [] → n.near.items ≡ h.near.items → Claimed a b n now
-claimed a b h n now p x k m known puts free flips copies places near =
+pub claimed : (a b : Pass) (h n : Hold) (now : ComplexView) (p : ℕ) (x : VersionedStar) (k : ComplexView) → Made a h now → know b ≡ with_item (know a) p x k → Puts a b p (some (Home x)) → has_item (know a).items p ≡ false
+    → n.flips.items ≡ h.flips.items → n.copies.items ≡ h.copies.items → n.places.items ≡ h.places.items ++ p ∷ [] → n.lent.items ≡ h.lent.items → Claimed a b n now
+claimed a b h n now p x k m known puts free flips copies places lent =
     let v = know a in
     let held : ℕ → Bool = has_item v.items in
     let sees_b : Sees (with_item v p x k) = subst Sees known b.sees in
@@ -53,25 +53,25 @@ claimed a b h n now p x k m known puts free flips copies places near =
       dim = a.sees.dim ∙ sym sees_b.dim;
       stars = λ q t. let y = some_of v.items q t in ap (λ (s : VertexStar). s.rows) (sym (a.sees.stars q y.0 y.1).1 ∙ (sees_b.stars q y.0 (item_past p q x v.items (apart q t) ∙ y.1)).1);
     } in
-    let end : (j : Space) × (replay k h.flips.items ≡ Some j) × AlikeOn held now j = alike_end held now (replay v.seen h.flips.items) (replay k h.flips.items) m.replays (replay_alike held v.seen k h.flips.items alike m.labels) in
+    let end : (j : ComplexView) × (replay k h.flips.items ≡ Some j) × AlikeOn held now j = alike_end held now (replay v.seen h.flips.items) (replay k h.flips.items) m.replays (replay_alike held v.seen k h.flips.items alike m.labels) in
     let same_star : (q : ℕ) → held q ≡ true → star_in end.0 q ≡ star_in now q = λ q t. λ i. record { vertex = q; dim = (sym end.2.dim) i; rows = (sym (end.2.stars q t)) i } in
     let new_star : star_in end.0 p ≡ star_in k p = untouched k end.0 h.flips.items p sees_b.complex end.1 (by (flips_touch p h.flips.items) refl (m.labels p)) in
     record {
       complex = end.0;
       made = record {
-        replays = ap (λ (w : Hand). replay w.seen n.flips.items) known ∙ (ap (replay k) flips ∙ end.1);
+        replays = ap (λ (w : PassView). replay w.seen n.flips.items) known ∙ (ap (replay k) flips ∙ end.1);
         faces = subst (AllByRecursion OfFaces) (sym flips) m.faces;
-        labels = λ q t. ap (λ (w : Hand). has_item w.items q) known ∙ has_more p q x v.items (m.labels q (ap (flips_touch q) (sym flips) ∙ t));
-        places = λ q t. ap (λ (ps : List ℕ). has ps q) places ∙ (has_snoc h.places.items p q ∙ in_places q (m.places q) (ap (λ (w : Hand). has_item w.items q) (sym known) ∙ t));
+        labels = λ q t. ap (λ (w : PassView). has_item w.items q) known ∙ has_more p q x v.items (m.labels q (ap (flips_touch q) (sym flips) ∙ t));
+        places = λ q t. ap (λ (ps : List ℕ). has ps q) places ∙ (has_snoc h.places.items p q ∙ in_places q (m.places q) (ap (λ (w : PassView). has_item w.items q) (sym known) ∙ t));
         copied = λ q t. ap (λ (cs : List VertexStar). has (vertices cs) q) copies ∙ m.copied q (ap (flips_touch q) (sym flips) ∙ t);
-        known = subst (λ (w : Hand). AllByRecursion (IsKnown w.items) n.copies.items) (sym known) (subst (AllByRecursion (IsKnown ((p, x) ∷ v.items))) (sym copies)
+        known = subst (λ (w : PassView). AllByRecursion (IsKnown w.items) n.copies.items) (sym known) (subst (AllByRecursion (IsKnown ((p, x) ∷ v.items))) (sym copies)
             (each_known v.items ((p, x) ∷ v.items) h.copies.items (λ q y at. item_past p q x v.items (apart q (has_some v.items q y at)) ∙ at) m.known));
-        near = near ∙ m.near;
+        lent = lent ∙ m.lent;
         hosts = λ q y at. ⊎_elim
-            (λ (e : (p ≡ q) × (x ≡ y)). puts q ∙ (tested p q (λ t. cond t (some (Home x)) (slot a q) ≡ some (Home x)) (λ _. refl) (λ ne. absurd (ne e.0)) ∙ ap (λ (z : HomeOf). some (Home z)) (home_again x y (star_in end.0 q) e.1 ((sees_b.stars q y (ap (λ (w : Hand). item w.items q) (sym known) ∙ at)).1 ∙ (ap (star_in k) (sym e.0) ∙ (sym new_star ∙ ap (star_in end.0) e.0))))))
+            (λ (e : (p ≡ q) × (x ≡ y)). puts q ∙ (tested p q (λ t. cond t (some (Home x)) (slot a q) ≡ some (Home x)) (λ _. refl) (λ ne. absurd (ne e.0)) ∙ ap (λ (z : VersionedStar). some (Home z)) (home_again x y (star_in end.0 q) e.1 ((sees_b.stars q y (ap (λ (w : PassView). item w.items q) (sym known) ∙ at)).1 ∙ (ap (star_in k) (sym e.0) ∙ (sym new_star ∙ ap (star_in end.0) e.0))))))
             (λ (old : item v.items q ≡ some y). let t = has_some v.items q y old in puts q ∙ (tested p q (λ t. cond t (some (Home x)) (slot a q) ≡ slot a q) (λ e. absurd (apart q t (sym e))) (λ _. refl) ∙ (m.hosts q y old ∙ ap (λ (s : VertexStar). some (Home (home s y.version))) (sym (same_star q t)))))
-            (item_cons p q x y v.items (ap (λ (w : Hand). item w.items q) (sym known) ∙ at));
-        free = ap (λ (w : Hand). w.has_journal) known ∙ m.free;
+            (item_cons p q x y v.items (ap (λ (w : PassView). item w.items q) (sym known) ∙ at));
+        free = ap (λ (w : PassView). w.has_journal) known ∙ m.free;
       };
       stars = same_star;
     }
@@ -85,21 +85,21 @@ claimed a b h n now p x k m known puts free flips copies places near =
         (λ e _. or_right (has h.places.items q) (nat_eq p q) (ap (λ (j : ℕ). nat_eq p j) (sym e) ∙ nat_eq_same p))
         (λ _ t. or_left (has h.places.items q) (nat_eq p q) (f t))
 
-    home_again : (x y : HomeOf) (s : VertexStar) → x ≡ y → y.star ≡ s → x ≡ home s y.version
+    home_again : (x y : VersionedStar) (s : VertexStar) → x ≡ y → y.star ≡ s → x ≡ home s y.version
     home_again x y s e f = e ∙ (λ i. home (f i) y.version)
 
 -- a place that isn't held isn't where the try began
-pub not_first : (s : Story) (v : Hand) (g : Going s v) (p : ℕ) → has_item v.items p ≡ false → s.place ≢ p
-not_first s v g p free e = off (sym free ∙ (ap (has_item v.items) (sym e) ∙ has_some v.items s.place s.home (ap (λ (l : List (ℕ × HomeOf)). item l s.place) (sym g.note) ∙ g.noting.first)))
+pub not_first : (s : StartedTry) (v : PassView) (g : Going s v) (p : ℕ) → has_item v.items p ≡ false → s.place ≢ p
+not_first s v g p free e = off (sym free ∙ (ap (has_item v.items) (sym e) ∙ has_some v.items s.place s.home (ap (λ (l : List (ℕ × VersionedStar)). item l s.place) (sym g.note) ∙ g.noting.first)))
 
-pub going_claimed : (s : Story) (a b : Hand) (p : ℕ) (x : HomeOf) (k : Space) → Going s a → b ≡ with_item a p x k → has_item a.items p ≡ false → flips_touch p s.flips ≡ true → Going s b
+pub going_claimed : (s : StartedTry) (a b : PassView) (p : ℕ) (x : VersionedStar) (k : ComplexView) → Going s a → b ≡ with_item a p x k → has_item a.items p ≡ false → flips_touch p s.flips ≡ true → Going s b
 going_claimed s a b p x k g known free label =
     let t = g.try_now in
     let o = g.noting in
     record {
       try_now = noted_at p x t;
       noting = record {
-        tries = ap (λ (h : Hand). h.tries) known ∙ ap (at_last (noted_at p x)) o.tries;
+        tries = ap (λ (h : PassView). h.tries) known ∙ ap (at_last (noted_at p x)) o.tries;
         place = o.place;
         won = o.won;
         found = o.found;
@@ -107,25 +107,25 @@ going_claimed s a b p x k g known free label =
         count = o.count;
         among = λ q. tested p q (λ b. cond b true (has_item t.note q) ≡ true → (q ≡ s.place) ⊎ (flips_touch q s.flips ≡ true))
             (λ e _. inr (ap (λ (j : ℕ). flips_touch j s.flips) (sym e) ∙ label)) (λ _ h. o.among q h);
-        worker = ap (λ (h : Hand). h.worker) known ∙ o.worker;
-        start = ap (λ (h : Hand). h.start.dim) known ∙ o.start;
+        worker = ap (λ (h : PassView). h.worker) known ∙ o.worker;
+        start = ap (λ (h : PassView). h.start.dim) known ∙ o.start;
       };
-      note = ap (λ (l : List (ℕ × HomeOf)). (p, x) ∷ l) g.note ∙ ap (λ (h : Hand). h.items) (sym known);
-      mine = ap (λ (h : Hand). h.mine) known ∙ g.mine;
-      claiming = ap (λ (h : Hand). h.claiming) known ∙ g.claiming;
+      note = ap (λ (l : List (ℕ × VersionedStar)). (p, x) ∷ l) g.note ∙ ap (λ (h : PassView). h.items) (sym known);
+      mine = ap (λ (h : PassView). h.mine) known ∙ g.mine;
+      claiming = ap (λ (h : PassView). h.claiming) known ∙ g.claiming;
       fresh = g.fresh;
     }
 
 pub restorable_move : (a b : Pass) (h : Hold) → Restorable a h → (know b).items ≡ (know a).items → (know b).has_journal ≡ (know a).has_journal → SameSlots a b → Restorable b h
 restorable_move a b h r items journal slots = record {
-  slots = λ q x at. let s = r.slots q x (ap (λ (l : List (ℕ × HomeOf)). item l q) (sym items) ∙ at) in (s.0, slots q ∙ s.1, s.2);
-  known = subst (λ (l : List (ℕ × HomeOf)). AllByRecursion (IsKnown l) h.copies.items) (sym items) r.known;
-  places = λ q t. r.places q (ap (λ (l : List (ℕ × HomeOf)). has_item l q) (sym items) ∙ t);
+  slots = λ q x at. let s = r.slots q x (ap (λ (l : List (ℕ × VersionedStar)). item l q) (sym items) ∙ at) in (s.0, slots q ∙ s.1, s.2);
+  known = subst (λ (l : List (ℕ × VersionedStar)). AllByRecursion (IsKnown l) h.copies.items) (sym items) r.known;
+  places = λ q t. r.places q (ap (λ (l : List (ℕ × VersionedStar)). has_item l q) (sym items) ∙ t);
   free = journal ∙ r.free;
 }
 
 -- a try ends where a label is refused
-pub ends_refused : (s : Story) (a b : Pass) (h : Hold) (now : Space) (p o : ℕ) → Going s (know a) → Made a h now → 0 < p → has_item (know a).items p ≡ false → flips_touch p s.flips ≡ true
+pub ends_refused : (s : StartedTry) (a b : Pass) (h : Hold) (now : ComplexView) (p o : ℕ) → Going s (know a) → Made a h now → 0 < p → has_item (know a).items p ≡ false → flips_touch p s.flips ≡ true
     → IsRefused (know a).worker o → know b ≡ counted (know a) p o → SameSlots a b → Ends s b h (Busy p o)
 ends_refused s a b h now p o g m pos free label refused known slots =
     let t = g.try_now in
@@ -135,17 +135,17 @@ ends_refused s a b h now p o g m pos free label refused known slots =
     record {
       try_now = refused_at p o t;
       noting = record {
-        tries = ap (λ (h : Hand). h.tries) known ∙ ap (at_last (refused_at p o)) n.tries;
+        tries = ap (λ (h : PassView). h.tries) known ∙ ap (at_last (refused_at p o)) n.tries;
         place = n.place;
         won = n.won;
         found = n.found;
         first = n.first;
         count = n.count;
         among = n.among;
-        worker = ap (λ (h : Hand). h.worker) known ∙ n.worker;
-        start = ap (λ (h : Hand). h.start.dim) known ∙ n.start;
+        worker = ap (λ (h : PassView). h.worker) known ∙ n.worker;
+        start = ap (λ (h : PassView). h.start.dim) known ∙ n.start;
       };
-      mine = ap (λ (h : Hand). h.mine) known ∙ g.mine;
+      mine = ap (λ (h : PassView). h.mine) known ∙ g.mine;
       reason = record {
         low = pos;
         last = refl;
@@ -156,11 +156,11 @@ ends_refused s a b h now p o g m pos free label refused known slots =
         vertices = vertices_is;
         journal = journal_is;
       };
-      restorable = restorable_move a b h (made_restorable a a h now a.sees m refl m.hosts) (ap (λ (h : Hand). h.items) known) (ap (λ (h : Hand). h.has_journal) known) slots;
+      restorable = restorable_move a b h (made_restorable a a h now a.sees m refl m.hosts) (ap (λ (h : PassView). h.items) known) (ap (λ (h : PassView). h.has_journal) known) slots;
     }
 
 -- or where the gate quits
-pub ends_quit : (s : Story) (a : Pass) (h : Hold) (now : Space) (answer : Stopped) → Going s (know a) → Made a h now → answer ≡ Quit → Ends s a h answer
+pub ends_quit : (s : StartedTry) (a : Pass) (h : Hold) (now : ComplexView) (answer : Stopped) → Going s (know a) → Made a h now → answer ≡ Quit → Ends s a h answer
 ends_quit s a h now answer g m is = subst (Ends s a h) (sym is) record { try_now = g.try_now; noting = g.noting; mine = g.mine; reason = g.fresh; restorable = made_restorable a a h now a.sees m refl m.hosts }
 
 pub ok_any : {P : Type 0} (r : Result (Unit {0}) Stopped) → P → OnOk r P
@@ -172,14 +172,14 @@ err_quit P Q (Ok u) h f = tt
 err_quit P Q (Err e) h f = f e h.0
 
 -- the place where it began is held
-pub first_held : (s : Story) (v : Hand) → Going s v → has_item v.items s.place ≡ true
-first_held s v g = has_some v.items s.place s.home (ap (λ (l : List (ℕ × HomeOf)). item l s.place) (sym g.note) ∙ g.noting.first)
+pub first_held : (s : StartedTry) (v : PassView) → Going s v → has_item v.items s.place ≡ true
+first_held s v g = has_some v.items s.place s.home (ap (λ (l : List (ℕ × VersionedStar)). item l s.place) (sym g.note) ∙ g.noting.first)
 
-pub here_now : (s : Story) (a : Pass) (h : Hold) (p o q : ℕ) → p ≡ q → Ends s a h (Busy q o) → Ends s a h (Busy p o)
+pub here_now : (s : StartedTry) (a : Pass) (h : Hold) (p o q : ℕ) → p ≡ q → Ends s a h (Busy q o) → Ends s a h (Busy p o)
 here_now s a h p o q is e = subst (λ (j : ℕ). Ends s a h (Busy j o)) (sym is) e
 
 -- labels that are held, and one more
-pub held_more : (old new : List (ℕ × HomeOf)) (front : List ℕ) (p : ℕ) → ((q : ℕ) → has_item old q ≡ true → has_item new q ≡ true) → ((q : ℕ) → has front q ≡ true → has_item old q ≡ true) → has_item new p ≡ true
+pub held_more : (old new : List (ℕ × VersionedStar)) (front : List ℕ) (p : ℕ) → ((q : ℕ) → has_item old q ≡ true → has_item new q ≡ true) → ((q : ℕ) → has front q ≡ true → has_item old q ≡ true) → has_item new p ≡ true
     → (q : ℕ) → has (front ++ p ∷ []) q ≡ true → has_item new q ≡ true
 held_more old new front p keeps held here q h = by (has front q) refl (nat_eq p q) refl
   where

@@ -1,8 +1,8 @@
 -- What a gate hears, step after step.
 use Rattle.std.proofs.Common.{◌≡◌, ℕ, ◌+◌, Bool, false, cond, List, [], ◌∷◌, length, Option, Some, None, ◌∙◌, ap, refl, subst, arith}
 use Rattle.board_rule.specs.Tries.{Try, at_last, noted_at, refused_at}
-use Rattle.board_rule.specs.declared.data.Home.{Home as HomeOf}
-use Rattle.board_rule.specs.declared.view.Hand.{Hand}
+use Rattle.board_rule.specs.declared.data.VersionedStar.{VersionedStar}
+use Rattle.board_rule.specs.declared.view.PassView.{PassView}
 use Rattle.held_stars.specs.Gates.{Heard, Follows, Keeps, after_asked, noted_in}
 use Rattle.held_stars.specs.Holding.{waits}
 use Rattle.held_stars.specs.declared.point.Point.TheVariants.{Claimed, Flipped}
@@ -99,14 +99,14 @@ pub noted_refused : (ts : List Try) (p o : ℕ) → noted_in (at_last (refused_a
 noted_refused [] p o = refl
 noted_refused (t ∷ ts) p o = refl
 
-pub noted_won : (ts es : List Try) (t : Try) (p : ℕ) (x : HomeOf) → ts ≡ t ∷ es → noted_in (at_last (noted_at p x) ts) ≡ noted_in ts + 1
+pub noted_won : (ts es : List Try) (t : Try) (p : ℕ) (x : VersionedStar) → ts ≡ t ∷ es → noted_in (at_last (noted_at p x) ts) ≡ noted_in ts + 1
 noted_won [] es t p x e = let n = ap length e in absurd (omega (arith, n))
 noted_won (u ∷ us) es t p x e = omega arith
 
-pub noted_waiting : (v : Hand) (os : List ℕ) → noted_in (waits v os).tries ≡ noted_in v.tries
+pub noted_waiting : (v : PassView) (os : List ℕ) → noted_in (waits v os).tries ≡ noted_in v.tries
 noted_waiting v [] = refl
 noted_waiting v (o ∷ os) = noted_refused (waits v os).tries 0 o ∙ noted_waiting v os
 
 -- one pass knows what another knew
-pub same_noted : (v w : Hand) → w ≡ v → noted_in w.tries ≡ noted_in v.tries
-same_noted v w e = ap (λ (u : Hand). noted_in u.tries) e
+pub same_noted : (v w : PassView) → w ≡ v → noted_in w.tries ≡ noted_in v.tries
+same_noted v w e = ap (λ (u : PassView). noted_in u.tries) e

@@ -11,9 +11,9 @@ use Rattle.stars.specs.StarViews.{VertexStar, vertices}
 use Rattle.board_rule.specs.Items.{item, has_item, without}
 use Rattle.board_rule.specs.Plays.{Sees}
 use Rattle.board_rule.specs.Views.{home, keeps, without_item}
-use Rattle.board_rule.specs.declared.data.Home.{Home as HomeOf}
+use Rattle.board_rule.specs.declared.data.VersionedStar.{VersionedStar}
 use Rattle.board_rule.specs.declared.data.Slot.TheVariants.{Home}
-use Rattle.board_rule.specs.declared.view.Hand.{Hand}
+use Rattle.board_rule.specs.declared.view.PassView.{PassView}
 use Rattle.board_rule.proofs.Items.{tested, off, some_of, has_some, item_without, has_without_here, has_less}
 use Rattle.vertex_claims.specs.Passes.{IsSame, know, slot, Puts}
 use Rattle.vertex_claims.specs.declared.pass.Pass.{Pass}
@@ -24,7 +24,7 @@ use Rattle.std.proofs.lemmas.Bool.{ne_eqb}
 use Rattle.complex_core.proofs.Members.{has_snoc}
 
 -- what a pass keeps while it gives places back
-pub record Keeps (v w : Hand) : Type 0 where
+pub record Keeps (v w : PassView) : Type 0 where
   pub tries : w.tries ≡ v.tries
   pub mine : w.mine ≡ v.mine
   pub worker : w.worker ≡ v.worker
@@ -55,26 +55,26 @@ last_or false b h u = off (sym u ∙ h)
 pub given_one : (a b c d : Pass) (flips : List Flip) (places front : List ℕ) (p : ℕ) → GivingUp a b flips places → places ≡ front ++ p ∷ [] → IsSame b c → know c ≡ know b → ((q : ℕ) → q ≢ p → slot c q ≡ slot b q)
     → IsSame c d → know d ≡ without_item (know c) p → Puts c d p none → GivingUp a d flips front
 given_one a b c d flips places front p g is same_bc known_bc slots same_cd known puts =
-    let items : (know d).items ≡ without p (know b).items = ap (λ (h : Hand). h.items) known ∙ ap (λ (h : Hand). without p h.items) known_bc in
-    let other : (q : ℕ) → has_item (know d).items q ≡ true → q ≢ p = λ q h e. off (sym (has_without_here p (know b).items) ∙ (ap (λ (n : ℕ). has_item (without p (know b).items) n) (sym e) ∙ (ap (λ (l : List (ℕ × HomeOf)). has_item l q) (sym items) ∙ h))) in
+    let items : (know d).items ≡ without p (know b).items = ap (λ (h : PassView). h.items) known ∙ ap (λ (h : PassView). without p h.items) known_bc in
+    let other : (q : ℕ) → has_item (know d).items q ≡ true → q ≢ p = λ q h e. off (sym (has_without_here p (know b).items) ∙ (ap (λ (n : ℕ). has_item (without p (know b).items) n) (sym e) ∙ (ap (λ (l : List (ℕ × VersionedStar)). has_item l q) (sym items) ∙ h))) in
     record {
       same = same_passes a c d (same_passes a b c g.same same_bc) same_cd;
       kept = record {
-        tries = ap (λ (h : Hand). h.tries) known ∙ (ap (λ (h : Hand). h.tries) known_bc ∙ g.kept.tries);
-        mine = ap (λ (h : Hand). h.mine) known ∙ (ap (λ (h : Hand). h.mine) known_bc ∙ g.kept.mine);
-        worker = ap (λ (h : Hand). h.worker) known ∙ (ap (λ (h : Hand). h.worker) known_bc ∙ g.kept.worker);
-        start = ap (λ (h : Hand). h.start) known ∙ (ap (λ (h : Hand). h.start) known_bc ∙ g.kept.start);
-        places = ap (λ (h : Hand). h.places) known ∙ (ap (λ (h : Hand). h.places) known_bc ∙ g.kept.places);
-        free = ap (λ (h : Hand). h.has_journal) known ∙ (ap (λ (h : Hand). h.has_journal) known_bc ∙ g.kept.free);
+        tries = ap (λ (h : PassView). h.tries) known ∙ (ap (λ (h : PassView). h.tries) known_bc ∙ g.kept.tries);
+        mine = ap (λ (h : PassView). h.mine) known ∙ (ap (λ (h : PassView). h.mine) known_bc ∙ g.kept.mine);
+        worker = ap (λ (h : PassView). h.worker) known ∙ (ap (λ (h : PassView). h.worker) known_bc ∙ g.kept.worker);
+        start = ap (λ (h : PassView). h.start) known ∙ (ap (λ (h : PassView). h.start) known_bc ∙ g.kept.start);
+        places = ap (λ (h : PassView). h.places) known ∙ (ap (λ (h : PassView). h.places) known_bc ∙ g.kept.places);
+        free = ap (λ (h : PassView). h.has_journal) known ∙ (ap (λ (h : PassView). h.has_journal) known_bc ∙ g.kept.free);
       };
       settles = λ q x at.
           let ne = other q (has_some (know d).items q x at) in
-          let old = item_without p q x (know b).items (ap (λ (l : List (ℕ × HomeOf)). item l q) (sym items) ∙ at) in
+          let old = item_without p q x (know b).items (ap (λ (l : List (ℕ × VersionedStar)). item l q) (sym items) ∙ at) in
           let s = g.settles q x old in
           (s.0, puts q ∙ (tested p q (λ t. cond t none (slot c q) ≡ slot c q) (λ e. absurd (ne (sym e))) (λ _. refl) ∙ (slots q ne ∙ s.1)), s.2);
       among = λ q h.
           let ne = other q h in
-          let old = has_less p q (know b).items (ap (λ (l : List (ℕ × HomeOf)). has_item l q) (sym items) ∙ h) in
+          let old = has_less p q (know b).items (ap (λ (l : List (ℕ × VersionedStar)). has_item l q) (sym items) ∙ h) in
           last_or (has front q) (nat_eq p q) (sym (has_snoc front p q) ∙ (ap (λ (l : List ℕ). has l q) (sym is) ∙ g.among q old)) (ne_eqb p q (λ e. ne (sym e)));
     }
 
@@ -91,7 +91,7 @@ given_none a b flips places front p g is out = record {
 
 -- the last copy was put back
 pub restored_one : (a b : Pass) (h n : Hold) (star : VertexStar) (p : ℕ) → Restorable a h → h.copies.items ≡ n.copies.items ++ star ∷ [] → p ≡ star.vertex → know b ≡ know a
-    → ((x : HomeOf) → slot a p ≡ some (Home x) → Puts a b p (some (Home (home star x.version)))) → n.places.items ≡ h.places.items → Restorable b n
+    → ((x : VersionedStar) → slot a p ≡ some (Home x) → Puts a b p (some (Home (home star x.version)))) → n.places.items ≡ h.places.items → Restorable b n
 restored_one a b h n star p r is at same puts places =
     let split : AllByRecursion (IsKnown (know a).items) n.copies.items × IsKnown (know a).items star = each_front (IsKnown (know a).items) n.copies.items star (subst (AllByRecursion (IsKnown (know a).items)) is r.known) in
     let k = split.1 in
@@ -100,23 +100,23 @@ restored_one a b h n star p r is at same puts places =
     let old : (q : ℕ) → has (vertices h.copies.items) q ≡ (has (vertices n.copies.items) q || nat_eq star.vertex q) = λ q. ap (λ (cs : List VertexStar). has (vertices cs) q) is ∙ (ap (λ (vs : List ℕ). has vs q) (vertices_snoc n.copies.items star) ∙ has_snoc (vertices n.copies.items) star.vertex q) in
     record {
       slots = λ q x got.
-          let was : item (know a).items q ≡ some x = ap (λ (v : Hand). item v.items q) (sym same) ∙ got in
+          let was : item (know a).items q ≡ some x = ap (λ (v : PassView). item v.items q) (sym same) ∙ got in
           let s = r.slots q x was in
           let put : slot b q ≡ cond (eqb p q) (some (Home (home star k.0.version))) (slot a q) = puts (home l.0 k.0.version) l.1 q in
           dite (ℕ_discrete p q)
           (λ e. let v : k.0 ≡ x = some-injective k.0 x (sym here ∙ (ap (item (know a).items) e ∙ was)) in
-          (star, put ∙ (tested p q (λ t. cond t (some (Home (home star k.0.version))) (slot a q) ≡ some (Home (home star k.0.version))) (λ _. refl) (λ ne. absurd (ne e)) ∙ ap (λ (y : HomeOf). some (Home (home star y.version))) v), λ _. k.2 ∙ ap (λ (y : HomeOf). y.star) v))
+          (star, put ∙ (tested p q (λ t. cond t (some (Home (home star k.0.version))) (slot a q) ≡ some (Home (home star k.0.version))) (λ _. refl) (λ ne. absurd (ne e)) ∙ ap (λ (y : VersionedStar). some (Home (home star y.version))) v), λ _. k.2 ∙ ap (λ (y : VersionedStar). y.star) v))
           (λ ne. (s.0, put ∙ (tested p q (λ t. cond t (some (Home (home star k.0.version))) (slot a q) ≡ slot a q) (λ e. absurd (ne e)) (λ _. refl) ∙ s.1), λ u. s.2 (old q ∙ both (has (vertices n.copies.items) q) (nat_eq star.vertex q) u (ne_eqb star.vertex q (λ e. ne (at ∙ e))))));
-      known = subst (λ (v : Hand). AllByRecursion (IsKnown v.items) n.copies.items) (sym same) split.0;
-      places = λ q t. ap (λ (ps : List ℕ). has ps q) places ∙ r.places q (ap (λ (v : Hand). has_item v.items q) (sym same) ∙ t);
-      free = ap (λ (v : Hand). v.has_journal) same ∙ r.free;
+      known = subst (λ (v : PassView). AllByRecursion (IsKnown v.items) n.copies.items) (sym same) split.0;
+      places = λ q t. ap (λ (ps : List ℕ). has ps q) places ∙ r.places q (ap (λ (v : PassView). has_item v.items q) (sym same) ∙ t);
+      free = ap (λ (v : PassView). v.has_journal) same ∙ r.free;
     }
   where
     both : (a b : Bool) → a ≡ false → b ≡ false → (a || b) ≡ false
     both a b f g = Rattle.complex_core.proofs.Laws.both_false f g
 
 -- a copy is of a place that has a slot
-pub copy_slot : (a : Pass) (h n : Hold) (front : List VertexStar) (star : VertexStar) (p : ℕ) → Restorable a h → h.copies.items ≡ front ++ star ∷ [] → p ≡ star.vertex → (x : HomeOf) × (slot a p ≡ some (Home x))
+pub copy_slot : (a : Pass) (h n : Hold) (front : List VertexStar) (star : VertexStar) (p : ℕ) → Restorable a h → h.copies.items ≡ front ++ star ∷ [] → p ≡ star.vertex → (x : VersionedStar) × (slot a p ≡ some (Home x))
 copy_slot a h n front star p r is at =
     let k : IsKnown (know a).items star = (each_front (IsKnown (know a).items) front star (subst (AllByRecursion (IsKnown (know a).items)) is r.known)).1 in
     let l = r.slots p k.0 (ap (item (know a).items) at ∙ k.1) in
@@ -124,24 +124,24 @@ copy_slot a h n front star p r is at =
 
 -- ---- claims of place 0
 
-pub waits_claiming : (v : Hand) (os : List ℕ) → (waits v os).claiming ≡ v.claiming
+pub waits_claiming : (v : PassView) (os : List ℕ) → (waits v os).claiming ≡ v.claiming
 waits_claiming v [] = refl
 waits_claiming v (o ∷ os) = waits_claiming v os
 
-pub waits_journal : (v : Hand) (os : List ℕ) → (waits v os).has_journal ≡ v.has_journal
+pub waits_journal : (v : PassView) (os : List ℕ) → (waits v os).has_journal ≡ v.has_journal
 waits_journal v [] = refl
 waits_journal v (o ∷ os) = waits_journal v os
 
-pub waits_worker : (v : Hand) (os : List ℕ) → (waits v os).worker ≡ v.worker
+pub waits_worker : (v : PassView) (os : List ℕ) → (waits v os).worker ≡ v.worker
 waits_worker v [] = refl
 waits_worker v (o ∷ os) = waits_worker v os
 
 -- ---- whether a place is held
 
-pub held_of : (v : Hand) (p : ℕ) (b : Bool) → v.has_journal ≡ false → b ≡ keeps v p → b ≡ true → has_item v.items p ≡ true
+pub held_of : (v : PassView) (p : ℕ) (b : Bool) → v.has_journal ≡ false → b ≡ keeps v p → b ≡ true → has_item v.items p ≡ true
 held_of v p b free is h = tested p 0 (λ t. cond t v.has_journal (has_item v.items p) ≡ true → has_item v.items p ≡ true) (λ _ t. off (sym free ∙ t)) (λ _ t. t) (sym is ∙ h)
 
-pub not_held : (v : Hand) (p : ℕ) (b : Bool) → Sees v → b ≡ keeps v p → b ≡ false → has_item v.items p ≡ false
+pub not_held : (v : PassView) (p : ℕ) (b : Bool) → Sees v → b ≡ keeps v p → b ≡ false → has_item v.items p ≡ false
 not_held v p b sees is h = tested p 0 (λ t. cond t v.has_journal (has_item v.items p) ≡ false → has_item v.items p ≡ false) (λ e _. by e (has_item v.items p) refl) (λ _ t. t) (sym is ∙ h)
   where
     by : p ≡ 0 → (t : Bool) → has_item v.items p ≡ t → has_item v.items p ≡ false
@@ -149,19 +149,19 @@ not_held v p b sees is h = tested p 0 (λ t. cond t v.has_journal (has_item v.it
     by e false g = g
 
 -- a version that lacks one entry fits when the entry is counted
-pub version_fits : (pass : Pass) (flips : List Flip) (p : ℕ) (out : HomeOf) (b : Bool) → Sees (know pass) → Settles pass flips → has_item (know pass).items p ≡ true → slot pass p ≡ some (Home out) → b ≡ flips_touch p flips → b ≡ true → out.version + 1 < 2 ^ 64
+pub version_fits : (pass : Pass) (flips : List Flip) (p : ℕ) (out : VersionedStar) (b : Bool) → Sees (know pass) → Settles pass flips → has_item (know pass).items p ≡ true → slot pass p ≡ some (Home out) → b ≡ flips_touch p flips → b ≡ true → out.version + 1 < 2 ^ 64
 version_fits pass flips p out b sees settles held at is h =
     let x = some_of (know pass).items p held in
     let s = settles p x.0 x.1 in
     let same : out ≡ home x.0.star s.0 = home_is out (home x.0.star s.0) (sym at ∙ s.1) in
-    let v : out.version ≡ s.0 = ap (λ (y : HomeOf). y.version) same in
+    let v : out.version ≡ s.0 = ap (λ (y : VersionedStar). y.version) same in
     let t : flips_touch p flips ≡ true = sym is ∙ h in
     let w : x.0.version ≡ s.0 + 1 = s.2 ∙ ap (λ (c : Bool). s.0 + cond c 1 0) t in
     let bound : x.0.version < 2 ^ 64 = sees.versions p x.0 x.1 in
     omega (arith, v, w, bound)
   where
-    home_is : (a b : HomeOf) → some (Home a) ≡ some (Home b) → a ≡ b
+    home_is : (a b : VersionedStar) → some (Home a) ≡ some (Home b) → a ≡ b
     home_is a b e = let h : Home a ≡ Home b = some-injective (Home a) (Home b) e in cc
 
-pub settled_slot : (pass : Pass) (flips : List Flip) (p : ℕ) → Settles pass flips → has_item (know pass).items p ≡ true → (x : HomeOf) × (slot pass p ≡ some (Home x))
+pub settled_slot : (pass : Pass) (flips : List Flip) (p : ℕ) → Settles pass flips → has_item (know pass).items p ≡ true → (x : VersionedStar) × (slot pass p ≡ some (Home x))
 settled_slot pass flips p settles held = let x = some_of (know pass).items p held in let s = settles p x.0 x.1 in (home x.0.star s.0, s.1)

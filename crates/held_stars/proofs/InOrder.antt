@@ -5,7 +5,7 @@ use Rattle.complex_core.specs.Labels.{has}
 use Rattle.complex_core.proofs.Laws.{or_left, or_right, nat_eq_same}
 use Rattle.complex_core.proofs.SubsetLists.{two}
 use Rattle.board_rule.specs.Items.{has_item}
-use Rattle.board_rule.specs.declared.data.Home.{Home as HomeOf}
+use Rattle.board_rule.specs.declared.data.VersionedStar.{VersionedStar}
 use Rattle.board_rule.proofs.Items.{off}
 use Rattle.held_stars.specs.Holding.{RefusedOf, EndedAt}
 use Rattle.held_stars.specs.declared.stopped.Stopped.{Stopped}
@@ -14,7 +14,7 @@ use Rattle.held_stars.proofs.LentStars.{take_all}
 use Rattle.complex_core.proofs.Members.{has_snoc}
 
 abbrev pub Items : Type 0
-Items = List (ℕ × HomeOf)
+Items = List (ℕ × VersionedStar)
 
 -- what is held is what was held, or these labels
 abbrev pub OnlyMore : Items → Items → List ℕ → Type 0
@@ -50,8 +50,8 @@ only_some labels i was now only q h = ⊎_elim (λ (t : has_item was q ≡ true)
     ]
 
 -- the claims end at a label
-pub ended_at : (labels : List ℕ) (i : ℕ) (was mid now : Items) (why : Stopped) → i < length labels → ((q : ℕ) → has (take i labels) q ≡ true → has_item mid q ≡ true) → ((q : ℕ) → has_item mid q ≡ true → has_item now q ≡ true) → OnlyMore was mid (take i labels)
-    → ((q : ℕ) → has_item now q ≡ true → (has_item mid q ≡ true) ⊎ (get_or labels i 0 ≡ q)) → RefusedOf (get_or labels i 0) mid now why → EndedAt labels was now why
+pub ended_at : (labels : List ℕ) (i : ℕ) (was mid now : Items) (stop : Stopped) → i < length labels → ((q : ℕ) → has (take i labels) q ≡ true → has_item mid q ≡ true) → ((q : ℕ) → has_item mid q ≡ true → has_item now q ≡ true) → OnlyMore was mid (take i labels)
+    → ((q : ℕ) → has_item now q ≡ true → (has_item mid q ≡ true) ⊎ (get_or labels i 0 ≡ q)) → RefusedOf (get_or labels i 0) mid now stop → EndedAt labels was now stop
 ended_at labels i was mid now (Busy q o) l before held only more refused = record {
   index = i;
   within = l;

@@ -3,7 +3,7 @@
 ghost use Rattle.std.specs.Prelude.{◌≡◌, ◌≢◌, ◌+◌, ◌<◌, ◌≤◌, ◌++◌, ◌∷◌, [], ℕ, List, true, false, OnOk, IfErr, vec_capacity, length};
 ghost use mathlib.Core.Option.{some};
 ghost use Rattle.complex_core.specs.Labels.{has};
-ghost use Rattle.complex_core.specs.Spaces.{Space};
+ghost use Rattle.complex_core.specs.Complexes.{ComplexView};
 ghost use Rattle.flip_rules.specs.Flips.{replay};
 ghost use Rattle.star_laws.specs.Stars.{flips_touch, LabelsPass};
 ghost use Rattle.stars.specs.StarViews.{vertices};
@@ -11,13 +11,13 @@ ghost use Rattle.board_rule.specs.Books.{Book};
 ghost use Rattle.board_rule.specs.Items.{item, has_item, without};
 ghost use Rattle.board_rule.specs.Plays.{IsRefused};
 ghost use Rattle.board_rule.specs.Views.{home, Empty, with_journal, without_journal};
-ghost use Rattle.board_rule.specs.declared.data.Home.{Home as HomeOf};
+ghost use Rattle.board_rule.specs.declared.data.VersionedStar.{VersionedStar};
 ghost use Rattle.vertex_claims.specs.Passes.{IsOf, IsSame, know, slot, spare, Puts, SameSlots};
 ghost use Rattle.held_stars.specs.Holding.{Settles, Restorable, Roomy, waits};
 
 use crate::hold::Hold;
 use crate::lending::swap_star;
-use board_rule::{Home, Slot};
+use board_rule::{VersionedStar, Slot};
 use flip_rules::Flip;
 use vertex_claims::{Board, Pass};
 
@@ -77,15 +77,15 @@ fn count_entry(board: &Board, pass: &mut Pass, place: u16, flips: &[Flip])
     requires settles { Settles pass.old flips.now }
     ensures same { IsSame pass.old pass.new }
     ensures known { know pass.new ≡ know pass.old }
-    ensures slot { (x : HomeOf) → item (know pass.old).items place ≡ some x → slot pass.new place ≡ some (Slot.Home x) }
+    ensures slot { (x : VersionedStar) → item (know pass.old).items place ≡ some x → slot pass.new place ≡ some (Slot.Home x) }
     ensures slots { (q : ℕ) → q ≢ place → slot pass.new q ≡ slot pass.old q }
 {
     if touched(flips, place) {
-        let Home { star, version } = pass.take_star(board, place);
+        let VersionedStar { star, version } = pass.take_star(board, place);
         pass.put_star(
             board,
             place,
-            Home {
+            VersionedStar {
                 star,
                 version: version + 1,
             },

@@ -19,7 +19,7 @@ pub struct Hold {
     /// The stars that these flips changed, as they were.
     pub copies: Vec<Star>,
     /// Stars that lie in no slot while a flip is made.
-    pub near: Vec<Star>,
+    pub lent: Vec<Star>,
 }
 
 impl Hold {
@@ -29,13 +29,13 @@ impl Hold {
     /// `AllocError` where there isn't enough memory.
     pub fn new(alloc: Global) -> Result<Hold, AllocError>
         ensures room { IfOk result Roomy }
-        ensures none { IfOk result (λ h. (h.places.items ≡ []) × (h.flips.items ≡ []) × (h.copies.items ≡ []) × (h.near.items ≡ [])) }
+        ensures none { IfOk result (λ h. (h.places.items ≡ []) × (h.flips.items ≡ []) × (h.copies.items ≡ []) × (h.lent.items ≡ [])) }
     {
         Ok(Hold {
             places: Vec::with_capacity(alloc, 33)?,
             flips: Vec::with_capacity(alloc, 4)?,
             copies: Vec::with_capacity(alloc, 32)?,
-            near: Vec::with_capacity(alloc, 8)?,
+            lent: Vec::with_capacity(alloc, 8)?,
         })
     }
 
@@ -44,12 +44,12 @@ impl Hold {
         requires { Roomy self.old }
         ensures room { Roomy self.new }
         ensures places { self.new.places.items ≡ place ∷ [] }
-        ensures none { (self.new.flips.items ≡ []) × (self.new.copies.items ≡ []) × (self.new.near.items ≡ []) }
+        ensures none { (self.new.flips.items ≡ []) × (self.new.copies.items ≡ []) × (self.new.lent.items ≡ []) }
     {
         self.places.clear();
         self.flips.clear();
         self.copies.clear();
-        self.near.clear();
+        self.lent.clear();
         self.places.push_reserved(place);
     }
 }

@@ -4,15 +4,15 @@ ghost use Rattle.std.specs.Prelude.{◌≡◌, ◌+◌, ◌<◌, ◌≤◌, ◌�
 ghost use Rattle.std.specs.List.{AllByRecursion};
 ghost use mathlib.Core.Option.{some};
 ghost use Rattle.complex_core.specs.Labels.{IsFace, has};
-ghost use Rattle.complex_core.specs.Spaces.{Space};
+ghost use Rattle.complex_core.specs.Complexes.{ComplexView};
 ghost use Rattle.stars.specs.StarViews.{vertices, IsStarOf};
 ghost use Rattle.board_rule.specs.Items.{has_item};
 ghost use Rattle.board_rule.specs.Views.{home};
-ghost use Rattle.board_rule.specs.declared.data.Home.{Home as HomeOf};
+ghost use Rattle.board_rule.specs.declared.data.VersionedStar.{VersionedStar};
 ghost use Rattle.vertex_claims.specs.Passes.{IsOf, IsSame, know, slot, spare, Puts};
 ghost use Rattle.held_stars.specs.Holding.{Hosts, Lends, Emptied, Copies, with_copies};
 
-use board_rule::{Home, Slot};
+use board_rule::{VersionedStar, Slot};
 use stars::{Star, has_star};
 use std::alloc::{AllocError, Global};
 use vertex_claims::{Board, Pass};
@@ -20,14 +20,14 @@ use vertex_claims::{Board, Pass};
 // Exchanges the star at a place that is held for another one.
 pub(crate) fn swap_star(board: &Board, pass: &mut Pass, place: u16, star: Star) -> Star
     requires board { IsOf pass.old board.now }
-    requires star { (x : HomeOf) × (slot pass.old place ≡ some (Slot.Home x)) }
+    requires star { (x : VersionedStar) × (slot pass.old place ≡ some (Slot.Home x)) }
     ensures same { IsSame pass.old pass.new }
     ensures known { (know pass.new ≡ know pass.old) × (spare pass.new ≡ spare pass.old) }
-    ensures star { (x : HomeOf) → slot pass.old place ≡ some (Slot.Home x) → result ≡ x.star }
-    ensures slots { (x : HomeOf) → slot pass.old place ≡ some (Slot.Home x) → Puts pass.old pass.new place (some (Slot.Home (home star x.version))) }
+    ensures star { (x : VersionedStar) → slot pass.old place ≡ some (Slot.Home x) → result ≡ x.star }
+    ensures slots { (x : VersionedStar) → slot pass.old place ≡ some (Slot.Home x) → Puts pass.old pass.new place (some (Slot.Home (home star x.version))) }
 {
-    let Home { star: old, version } = pass.take_star(board, place);
-    pass.put_star(board, place, Home { star, version });
+    let VersionedStar { star: old, version } = pass.take_star(board, place);
+    pass.put_star(board, place, VersionedStar { star, version });
     old
 }
 
@@ -36,42 +36,42 @@ pub(crate) fn swap_star(board: &Board, pass: &mut Pass, place: u16, star: Star) 
 pub fn lend(
     board: &Board,
     pass: &mut Pass,
-    near: &mut Vec<Star>,
+    lent: &mut Vec<Star>,
     alloc: Global,
     dim: u32,
     labels: &[u16],
 )
     requires board { IsOf pass.old board.now }
-    requires hosts { (k : Space) × Hosts pass.old k }
+    requires hosts { (k : ComplexView) × Hosts pass.old k }
     requires labels { IsFace labels.now }
     requires held { (q : ℕ) → has labels.now q ≡ true → has_item (know pass.old).items q ≡ true }
-    requires near { (near.old.items ≡ []) × (8 ≤ vec_capacity near.old) }
+    requires lent { (lent.old.items ≡ []) × (8 ≤ vec_capacity lent.old) }
     requires dim { dim ≤ 6 }
     ensures same { IsSame pass.old pass.new }
     ensures known { (know pass.new ≡ know pass.old) × (spare pass.new ≡ spare pass.old) }
-    ensures lent { (k : Space) → Hosts pass.old k → Lends pass.new k labels.now }
+    ensures lent { (k : ComplexView) → Hosts pass.old k → Lends pass.new k labels.now }
     ensures emptied { Emptied dim pass.old pass.new labels.now }
-    ensures stars { (k : Space) → Hosts pass.old k → AllByRecursion (IsStarOf k) near.new.items }
-    ensures vertices { vertices near.new.items ≡ labels.now }
-    ensures capacity { vec_capacity near.new ≡ vec_capacity near.old }
+    ensures stars { (k : ComplexView) → Hosts pass.old k → AllByRecursion (IsStarOf k) lent.new.items }
+    ensures vertices { vertices lent.new.items ≡ labels.now }
+    ensures capacity { vec_capacity lent.new ≡ vec_capacity lent.old }
 {
     for label in labels {
         let star = swap_star(board, pass, *label, Star::empty(alloc, *label, dim));
-        near.push_reserved(star);
+        lent.push_reserved(star);
     }
 }
 
 /// Puts lent stars back into the slots of their places. It takes no memory.
-pub fn give_back(board: &Board, pass: &mut Pass, near: &mut Vec<Star>)
+pub fn give_back(board: &Board, pass: &mut Pass, lent: &mut Vec<Star>)
     requires board { IsOf pass.old board.now }
-    requires lent { (k : Space) × Lends pass.old k (vertices near.old.items) × AllByRecursion (IsStarOf k) near.old.items }
-    requires held { (q : ℕ) → has (vertices near.old.items) q ≡ true → has_item (know pass.old).items q ≡ true }
+    requires lent { (k : ComplexView) × Lends pass.old k (vertices lent.old.items) × AllByRecursion (IsStarOf k) lent.old.items }
+    requires held { (q : ℕ) → has (vertices lent.old.items) q ≡ true → has_item (know pass.old).items q ≡ true }
     ensures same { IsSame pass.old pass.new }
     ensures known { (know pass.new ≡ know pass.old) × (spare pass.new ≡ spare pass.old) }
-    ensures hosts { (k : Space) → Lends pass.old k (vertices near.old.items) → AllByRecursion (IsStarOf k) near.old.items → Hosts pass.new k }
-    ensures near { (near.new.items ≡ []) × (vec_capacity near.new ≡ vec_capacity near.old) }
+    ensures hosts { (k : ComplexView) → Lends pass.old k (vertices lent.old.items) → AllByRecursion (IsStarOf k) lent.old.items → Hosts pass.new k }
+    ensures lent { (lent.new.items ≡ []) × (vec_capacity lent.new ≡ vec_capacity lent.old) }
 {
-    while let Some(star) = near.pop() {
+    while let Some(star) = lent.pop() {
         let place = star.vertex();
         let _empty = swap_star(board, pass, place, star);
     }
@@ -94,15 +94,15 @@ fn keep_copy(alloc: Global, star: &Star, copies: &mut Vec<Star>) -> Result<(), A
 // Copies each of some stars whose place has no copy yet, up to the first for which there is no memory.
 pub(crate) fn keep_copies(
     alloc: Global,
-    near: &[Star],
+    lent: &[Star],
     copies: &mut Vec<Star>,
 ) -> Result<(), AllocError>
-    requires { length copies.old.items + length near.now ≤ vec_capacity copies.old }
-    ensures copies { Copies copies.old.items near.now copies.new.items }
-    ensures all { OnOk result (copies.new.items ≡ with_copies copies.old.items near.now) }
+    requires { length copies.old.items + length lent.now ≤ vec_capacity copies.old }
+    ensures copies { Copies copies.old.items lent.now copies.new.items }
+    ensures all { OnOk result (copies.new.items ≡ with_copies copies.old.items lent.now) }
     ensures capacity { vec_capacity copies.new ≡ vec_capacity copies.old }
 {
-    for star in near {
+    for star in lent {
         keep_copy(alloc, star, copies)?;
     }
     Ok(())

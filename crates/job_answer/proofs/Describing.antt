@@ -1,7 +1,7 @@
 -- There is one least ridge that doesn't lie in two facets, and one least facet that isn't joined; each has one line.
 use Rattle.std.proofs.Common.{◌≡◌, ℕ, List, sym, ◌∙◌, ap, subst}
 use Rattle.pseudo_test.specs.Ridges.{count, Closed, IsLeastOther}
-use Rattle.pseudo_test.specs.Chains.{Strong, IsLeast, IsApart}
+use Rattle.pseudo_test.specs.Chains.{StronglyConnected, IsLeast, IsApart}
 use Rattle.job_answer.specs.Lines.{ridge_line, apart_line}
 use Rattle.complex_core.proofs.SetLists.{neither_less}
 
@@ -34,5 +34,5 @@ same_apart_line fs f g h i a b =
     let o : g ≡ i = same_other fs f g i a (subst P e b) in
     ap (λ x. apart_line x g) (sym e) ∙ ap (λ x. apart_line h x) o
 
-pub not_strong : (fs : List (List ℕ)) (f g : List ℕ) → Strong fs → IsApart fs f g → ⊥
+pub not_strong : (fs : List (List ℕ)) (f g : List ℕ) → StronglyConnected fs → IsApart fs f g → ⊥
 not_strong fs f g s a = a.apart (s.joined f g a.begins.there a.there)

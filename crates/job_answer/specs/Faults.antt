@@ -14,32 +14,32 @@ use Rattle.job_answer.specs.declared.fault.Fault.TheVariants.{TooLong, Syntax, L
 abbrev pub bad_line : List ℕ → List ℕ
 bad_line words = codes "bad input " ++ (words ++ 10 ∷ [])
 
--- the same, and a place
+-- the same, and an offset
 abbrev pub bad_line_at : List ℕ → ℕ → List ℕ
-bad_line_at words place = bad_line (words ++ (32 ∷ decimal place))
+bad_line_at words offset = bad_line (words ++ (32 ∷ decimal offset))
 
 -- the line of a fault (no input has the fault `Memory`)
 abbrev pub fault_line : Fault → List ℕ
 fault_line TooLong = bad_line (codes "too long")
-fault_line (Syntax place) = bad_line_at (codes "syntax") place
-fault_line (Label place) = bad_line_at (codes "label") place
-fault_line (Twice place) = bad_line_at (codes "twice") place
-fault_line (Size place) = bad_line_at (codes "size") place
-fault_line (NotPure place) = bad_line_at (codes "not pure") place
+fault_line (Syntax offset) = bad_line_at (codes "syntax") offset
+fault_line (Label offset) = bad_line_at (codes "label") offset
+fault_line (Twice offset) = bad_line_at (codes "twice") offset
+fault_line (Size offset) = bad_line_at (codes "size") offset
+fault_line (NotPure offset) = bad_line_at (codes "not pure") offset
 fault_line TooManyFacets = bad_line (codes "too many facets")
 fault_line TooManyLabels = bad_line (codes "too many labels")
-fault_line (Count place) = bad_line_at (codes "count") place
-fault_line (Number place) = bad_line_at (codes "number") place
+fault_line (Count offset) = bad_line_at (codes "count") offset
+fault_line (Number offset) = bad_line_at (codes "number") offset
 fault_line Memory = []
 
 -- ---- the faults of the text of a complex
 
 abbrev pub of_text : TextFault → Fault
-of_text (text.Syntax place) = Syntax place
-of_text (text.Label place) = Label place
-of_text (text.Twice place) = Twice place
-of_text (text.Size place) = Size place
-of_text (text.NotPure place) = NotPure place
+of_text (text.Syntax offset) = Syntax offset
+of_text (text.Label offset) = Label offset
+of_text (text.Twice offset) = Twice offset
+of_text (text.Size offset) = Size offset
+of_text (text.NotPure offset) = NotPure offset
 of_text text.TooManyFacets = TooManyFacets
 of_text text.TooManyLabels = TooManyLabels
 of_text text.Memory = Memory

@@ -13,8 +13,8 @@ pub fn read_alone(alloc: Global, bytes: &[u8]) -> Result<Complex, Fault>
     ensures read { GivesComplex result (complex_of bytes.now) }
     ensures limits { IfOk result (λ k. KeepsLimits k) }
 {
-    let (complex, place) = read_complex(alloc, bytes, 0)?;
-    match next_token(bytes, place) {
+    let (complex, offset) = read_complex(alloc, bytes, 0)?;
+    match next_token(bytes, offset) {
         Some(token) => Err(Fault::Syntax(token.start)),
         None => Ok(complex),
     }

@@ -6,7 +6,7 @@ ghost use Rattle.job_answer.specs.declared.fault.Fault.TheVariants.{Memory};
 use facet_text::TextFault;
 use std::alloc::{AllocError, Global};
 
-/// Why an input is refused: its first fault from left to right. A place counts the bytes before it.
+/// Why an input is refused: its first fault from left to right. An offset counts the bytes before it.
 #[derive(Clone, Copy)]
 pub enum Fault {
     /// More bytes than the job takes.
@@ -38,11 +38,11 @@ impl From<TextFault> for Fault {
 
     fn from(e: TextFault) -> Fault {
         match e {
-            TextFault::Syntax(place) => Fault::Syntax(place),
-            TextFault::Label(place) => Fault::Label(place),
-            TextFault::Twice(place) => Fault::Twice(place),
-            TextFault::Size(place) => Fault::Size(place),
-            TextFault::NotPure(place) => Fault::NotPure(place),
+            TextFault::Syntax(offset) => Fault::Syntax(offset),
+            TextFault::Label(offset) => Fault::Label(offset),
+            TextFault::Twice(offset) => Fault::Twice(offset),
+            TextFault::Size(offset) => Fault::Size(offset),
+            TextFault::NotPure(offset) => Fault::NotPure(offset),
             TextFault::TooManyFacets => Fault::TooManyFacets,
             TextFault::TooManyLabels => Fault::TooManyLabels,
             TextFault::Memory => Fault::Memory,
@@ -50,7 +50,7 @@ impl From<TextFault> for Fault {
     }
 }
 
-// The line of a fault without a place.
+// The line of a fault without an offset.
 fn line(alloc: Global, words: &str) -> Result<String, AllocError>
     ensures { IfOk result (λ t. string_bytes t ≡ bad_line words.now) }
 {
@@ -60,13 +60,13 @@ fn line(alloc: Global, words: &str) -> Result<String, AllocError>
     Ok(text)
 }
 
-// The line of a fault at a place.
-fn line_at(alloc: Global, words: &str, place: usize) -> Result<String, AllocError>
-    ensures { IfOk result (λ t. string_bytes t ≡ bad_line_at words.now place) }
+// The line of a fault at an offset.
+fn line_at(alloc: Global, words: &str, offset: usize) -> Result<String, AllocError>
+    ensures { IfOk result (λ t. string_bytes t ≡ bad_line_at words.now offset) }
 {
     let mut text = String::from_str(alloc, "bad input ")?;
     text.push_str(words)?;
-    write!(text, " {place}\n")?;
+    write!(text, " {offset}\n")?;
     Ok(text)
 }
 
@@ -77,15 +77,15 @@ pub(crate) fn fault_line(alloc: Global, fault: Fault) -> Result<String, AllocErr
 {
     match fault {
         Fault::TooLong => line(alloc, "too long"),
-        Fault::Syntax(place) => line_at(alloc, "syntax", place),
-        Fault::Label(place) => line_at(alloc, "label", place),
-        Fault::Twice(place) => line_at(alloc, "twice", place),
-        Fault::Size(place) => line_at(alloc, "size", place),
-        Fault::NotPure(place) => line_at(alloc, "not pure", place),
+        Fault::Syntax(offset) => line_at(alloc, "syntax", offset),
+        Fault::Label(offset) => line_at(alloc, "label", offset),
+        Fault::Twice(offset) => line_at(alloc, "twice", offset),
+        Fault::Size(offset) => line_at(alloc, "size", offset),
+        Fault::NotPure(offset) => line_at(alloc, "not pure", offset),
         Fault::TooManyFacets => line(alloc, "too many facets"),
         Fault::TooManyLabels => line(alloc, "too many labels"),
-        Fault::Count(place) => line_at(alloc, "count", place),
-        Fault::Number(place) => line_at(alloc, "number", place),
+        Fault::Count(offset) => line_at(alloc, "count", offset),
+        Fault::Number(offset) => line_at(alloc, "number", offset),
         Fault::Memory => Err(AllocError),
     }
 }

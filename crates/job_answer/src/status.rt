@@ -5,7 +5,7 @@ ghost use Rattle.job_answer.specs.Statuses.{status_number};
 /// How a job ends.
 #[derive(Clone, Copy, Debug, PartialEq, Eq)]
 pub enum Status {
-    /// The job's claim holds.
+    /// What the job asks is so.
     Yes,
     /// An obstacle to it holds.
     No,

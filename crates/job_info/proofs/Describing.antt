@@ -1,6 +1,6 @@
 -- A complex has one description.
 use Rattle.std.proofs.Common.{◌≡◌, ℕ, List, ◌++◌, inl, inr, sym, ◌∙◌, ap}
-use Rattle.complex_core.specs.Spaces.{Space}
+use Rattle.complex_core.specs.Complexes.{ComplexView}
 use Rattle.job_answer.proofs.Describing.{same_ridge_line, not_closed, same_apart_line, not_strong}
 use Rattle.job_info.specs.Descriptions.{counted_lines, IsClosedLine, IsStrongLine, IsOrientableLine, Describes}
 
@@ -22,7 +22,7 @@ same_orientable_line fs xs ys (inl a) (inr b) = absurd (b.clash a.orientable)
 same_orientable_line fs xs ys (inr a) (inl b) = absurd (a.clash b.orientable)
 same_orientable_line fs xs ys (inr a) (inr b) = a.says ∙ sym b.says
 
-pub same_description : (k : Space) (xs ys : List ℕ) → Describes k xs → Describes k ys → xs ≡ ys
+pub same_description : (k : ComplexView) (xs ys : List ℕ) → Describes k xs → Describes k ys → xs ≡ ys
 same_description k xs ys a b =
     let c : a.closed ≡ b.closed = same_closed_line k.facets a.closed b.closed a.closed_is b.closed_is in
     let s : a.strong ≡ b.strong = same_strong_line k.facets a.strong b.strong a.strong_is b.strong_is in

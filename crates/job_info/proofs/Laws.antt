@@ -1,6 +1,6 @@
 -- The laws of the job `info`.
 use Rattle.std.proofs.Common.{◌≡◌, ℕ, List, inl, inr, sym, ◌∙◌}
-use Rattle.complex_core.specs.Spaces.{Space}
+use Rattle.complex_core.specs.Complexes.{ComplexView}
 use Rattle.job_answer.specs.Meanings.{Lawful, Same}
 use Rattle.job_answer.proofs.Meanings.{IsDoneShort, verdict_done}
 use Rattle.job_answer.specs.declared.status.Status.{Status}
@@ -9,7 +9,7 @@ use Rattle.job_info.specs.Answers.{IsInfo, meaning}
 use Rattle.job_info.specs.Laws.{YesTellsFacts, NeverSaysNo}
 use Rattle.job_info.proofs.Describing.{same_description}
 
-same_info : (k : Space) (s t : Status) (xs ys : List ℕ) → IsInfo k s xs tt → IsInfo k t ys tt → Same {F = Unit {0}} s t xs ys tt tt
+same_info : (k : ComplexView) (s t : Status) (xs ys : List ℕ) → IsInfo k s xs tt → IsInfo k t ys tt → Same {F = Unit {0}} s t xs ys tt tt
 same_info k s t xs ys a b = record { statuses = a.is_yes ∙ sym b.is_yes; texts = same_description k xs ys a.describes b.describes; reports = λ i. tt }
 
 pub lawful : Lawful meaning

@@ -1,6 +1,6 @@
 -- What the job `info` answers.
 use Rattle.std.specs.Prelude.{◌≡◌, ℕ, List, Ok}
-use Rattle.complex_core.specs.Spaces.{Space}
+use Rattle.complex_core.specs.Complexes.{ComplexView}
 use Rattle.job_answer.specs.Alone.{complex_of}
 use Rattle.job_answer.specs.Meanings.{Meaning}
 use Rattle.job_answer.specs.declared.status.Status.{Status}
@@ -8,13 +8,13 @@ use Rattle.job_answer.specs.declared.status.Status.TheVariants.{Yes}
 use Rattle.job_info.specs.Descriptions.{Describes}
 
 -- Yes always, with a text that describes the complex
-pub record IsInfo (complex : Space) (status : Status) (text : List ℕ) (found : Unit {0}) : Type 0 where
+pub record IsInfo (complex : ComplexView) (status : Status) (text : List ℕ) (found : Unit {0}) : Type 0 where
   pub is_yes : status ≡ Yes
   pub describes : Describes complex text
 
 -- the bytes tell a complex, which the text describes
 pub record TellsFacts (bytes text : List ℕ) : Type 0 where
-  pub complex : Space
+  pub complex : ComplexView
   pub input : complex_of bytes ≡ Ok complex
   pub describes : Describes complex text
 
@@ -22,7 +22,7 @@ pub record TellsFacts (bytes text : List ℕ) : Type 0 where
 abbrev pub meaning : Meaning (Unit {0})
 meaning = record {
   limit = 4194304;
-  Input = Space;
+  Input = ComplexView;
   read = complex_of;
   answers = IsInfo;
   nothing = tt;

@@ -2,11 +2,11 @@
 use Rattle.std.specs.Prelude.{◌≡◌, ◌⊎◌, ℕ, ◌+◌, List, [], ◌∷◌, ◌++◌, codes}
 use Rattle.std.specs.List.{flat_map}
 use Rattle.std.specs.Fmt.{decimal}
-use Rattle.complex_core.specs.Spaces.{Space}
+use Rattle.complex_core.specs.Complexes.{ComplexView}
 use Rattle.face_counts.specs.Faces.{faces, numbers}
 use Rattle.face_counts.specs.Eulers.{euler}
 use Rattle.pseudo_test.specs.Ridges.{Closed, IsLeastOther}
-use Rattle.pseudo_test.specs.Chains.{Strong, IsApart}
+use Rattle.pseudo_test.specs.Chains.{StronglyConnected, IsApart}
 use Rattle.orient_test.specs.Signs.{Orientable}
 use Rattle.line_text.specs.Writing.{set_off}
 use Rattle.job_answer.specs.Lines.{euler_line, ridge_line, apart_line, clash_line}
@@ -48,7 +48,7 @@ IsClosedLine facets line = TellsClosed facets line ⊎ TellsRidge facets line
 
 -- any two facets are joined by a chain over ridges
 pub record TellsStrong (facets : List (List ℕ)) (line : List ℕ) : Type 0 where
-  pub strong : Strong facets
+  pub strong : StronglyConnected facets
   pub says : line ≡ strong_line
 
 -- the least facet, and the least that isn't joined to it
@@ -77,11 +77,11 @@ IsOrientableLine facets line = TellsOrientable facets line ⊎ TellsClash facets
 -- ---- the whole
 
 -- the dimension, the numbers of faces and the Euler characteristic
-abbrev pub counted_lines : Space → List ℕ
+abbrev pub counted_lines : ComplexView → List ℕ
 counted_lines k = dimension_line k.dim ++ (counts_line (numbers (faces k.facets) (k.dim + 1)) ++ euler_line (euler k.facets))
 
 -- the text has these lines, and then whether the complex is closed, strongly connected and orientable
-pub record Describes (k : Space) (text : List ℕ) : Type 0 where
+pub record Describes (k : ComplexView) (text : List ℕ) : Type 0 where
   pub closed : List ℕ
   pub strong : List ℕ
   pub orientable : List ℕ

@@ -1,8 +1,8 @@
--- What a certificate comes to is one thing, and a Yes to it is exactly that it shows what it claims.
+-- What a certificate comes to is one thing, and a Yes to it is exactly that it shows what it states.
 use Rattle.std.proofs.Common.{◌≡◌, ℕ, List, inl, inr, sym, ◌∙◌, ap, refl, arith}
-use Rattle.complex_core.specs.Spaces.{Space}
+use Rattle.complex_core.specs.Complexes.{ComplexView}
 use Rattle.facet_text.specs.Writing.{KeepsLimits}
-use Rattle.cert_text.specs.Claims.{Claim, Sphere, Equal, Manifold}
+use Rattle.cert_text.specs.Statements.{Statement, Sphere, Equal, Manifold}
 use Rattle.cert_replay.specs.Answers.{Certifies, HasLinks, IsValid}
 use Rattle.cert_replay.specs.declared.judge.Replayed.{Replayed}
 use Rattle.cert_replay.specs.declared.judge.Replayed.TheVariants.{Valid, Bad, WrongEnd}
@@ -14,12 +14,12 @@ use Rattle.job_answer.specs.declared.status.Status.{Status}
 use Rattle.job_answer.specs.declared.status.Status.TheVariants.{Yes}
 
 -- a complex that was read has links
-pub links_are : (k : Space) (c : Claim) → KeepsLimits k → HasLinks k c
+pub links_are : (k : ComplexView) (c : Statement) → KeepsLimits k → HasLinks k c
 links_are k (Sphere flips) h = tt
 links_are k (Equal target flips pairs) h = tt
 links_are k (Manifold lists) h = omega (arith, h.dim)
 
-pub same_verdict : (k : Space) (c : Claim) (s t : Status) (xs ys : List ℕ) → IsVerdict k c s xs → IsVerdict k c t ys → (s ≡ t) × (xs ≡ ys)
+pub same_verdict : (k : ComplexView) (c : Statement) (s t : Status) (xs ys : List ℕ) → IsVerdict k c s xs → IsVerdict k c t ys → (s ≡ t) × (xs ≡ ys)
 same_verdict k c s t xs ys a b =
     let e : a.comes_to ≡ b.comes_to = answer_one k c a.comes_to b.comes_to a.replayed b.replayed in
     (a.status_is ∙ ap status_of e ∙ sym b.status_is, a.says ∙ ap (replayed_text c) e ∙ sym b.says)
@@ -36,10 +36,10 @@ valid_yes (Valid flips count) v = refl
 valid_yes (Bad number reason) v = absurd v
 valid_yes WrongEnd v = absurd v
 
-pub yes_shows : (k : Space) (c : Claim) (s : Status) (xs : List ℕ) → IsVerdict k c s xs → s ≡ Yes → Certifies k c
+pub yes_shows : (k : ComplexView) (c : Statement) (s : Status) (xs : List ℕ) → IsVerdict k c s xs → s ≡ Yes → Certifies k c
 yes_shows k c s xs a e = valid_from k c a.comes_to a.replayed (yes_valid a.comes_to (sym a.status_is ∙ e))
 
-pub shown_yes : (k : Space) (c : Claim) (s : Status) (xs : List ℕ) → IsVerdict k c s xs → Certifies k c → s ≡ Yes
+pub shown_yes : (k : ComplexView) (c : Statement) (s : Status) (xs : List ℕ) → IsVerdict k c s xs → Certifies k c → s ≡ Yes
 shown_yes k c s xs a h = a.status_is ∙ valid_yes a.comes_to (valid_where k c a.comes_to a.replayed h)
 
 decided_of : (r : Replayed) (s : Status) → s ≡ status_of r → IsDecided s
@@ -47,5 +47,5 @@ decided_of (Valid flips count) s e = inl e
 decided_of (Bad number reason) s e = inr e
 decided_of WrongEnd s e = inr e
 
-pub verdict_decided : (k : Space) (c : Claim) (s : Status) (xs : List ℕ) → IsVerdict k c s xs → IsDecided s
+pub verdict_decided : (k : ComplexView) (c : Statement) (s : Status) (xs : List ℕ) → IsVerdict k c s xs → IsDecided s
 verdict_decided k c s xs a = decided_of a.comes_to s a.status_is

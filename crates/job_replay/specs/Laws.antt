@@ -5,6 +5,6 @@ use Rattle.job_answer.specs.declared.status.Status.{Status}
 use Rattle.job_answer.specs.declared.status.Status.TheVariants.{Yes}
 use Rattle.job_replay.specs.Answers.{meaning, TellsCertified}
 
--- a Yes is exactly that the bytes tell a certificate that shows what it claims
+-- a Yes is exactly that the bytes tell a certificate that shows what it states
 abbrev pub YesIsCertified : Type 0
 YesIsCertified = (bytes : List ℕ) (status : Status) (text : List ℕ) → Answers meaning bytes status text tt → (status ≡ Yes) ↔ TellsCertified bytes

@@ -14,9 +14,9 @@ fn fault_of(fault: CertFault) -> Fault
     ensures { result ≡ of_cert fault }
 {
     match fault {
-        CertFault::Syntax(place) => Fault::Syntax(place),
-        CertFault::Label(place) => Fault::Label(place),
-        CertFault::Count(place) => Fault::Count(place),
+        CertFault::Syntax(offset) => Fault::Syntax(offset),
+        CertFault::Label(offset) => Fault::Label(offset),
+        CertFault::Count(offset) => Fault::Count(offset),
         CertFault::Target(fault) => Fault::from(fault),
         CertFault::Memory => Fault::Memory,
     }
@@ -27,8 +27,8 @@ pub(crate) fn read_input(alloc: Global, bytes: &[u8]) -> Result<(Complex, Certif
     ensures read { Gives result (input_of bytes.now) }
     ensures limits { IfOk result (λ x. KeepsLimits x.0) }
 {
-    let (complex, place) = read_complex(alloc, bytes, 0)?;
-    match read_certificate(alloc, bytes, place) {
+    let (complex, offset) = read_complex(alloc, bytes, 0)?;
+    match read_certificate(alloc, bytes, offset) {
         Ok(certificate) => Ok((complex, certificate)),
         Err(fault) => Err(fault_of(fault)),
     }

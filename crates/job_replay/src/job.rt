@@ -1,6 +1,6 @@
 // The job `replay`, from bytes to what it says.
 ghost use Rattle.std.specs.Prelude.{IfOk};
-ghost use Rattle.cert_text.specs.Claims.{claim};
+ghost use Rattle.cert_text.specs.Statements.{statement};
 ghost use Rattle.facet_text.specs.Writing.{KeepsLimits};
 ghost use Rattle.job_answer.specs.Meanings.{Judges};
 ghost use Rattle.job_replay.specs.Answers.{IsVerdict, meaning};
@@ -24,14 +24,14 @@ fn judge_certificate(
     certificate: &Certificate,
 ) -> Result<Said, AllocError>
     requires { KeepsLimits complex.now }
-    ensures { IfOk result (λ a. IsVerdict complex.now (claim certificate.now) a.status a.text.items) }
+    ensures { IfOk result (λ a. IsVerdict complex.now (statement certificate.now) a.status a.text.items) }
 {
     match replay(alloc, complex, certificate)? {
         Replayed::Valid { flips, facets } => Ok(plain(
             Status::Yes,
             shown_text(alloc, certificate, flips, facets)?,
         )),
-        Replayed::Bad { index, fault } => Ok(plain(Status::No, illegal_text(alloc, index, fault)?)),
+        Replayed::Bad { number, fault } => Ok(plain(Status::No, illegal_text(alloc, number, fault)?)),
         Replayed::WrongEnd => Ok(plain(Status::No, wrong_end_text(alloc)?)),
     }
 }

@@ -1,6 +1,6 @@
 // The texts of the answers.
 ghost use Rattle.std.specs.Prelude.{◌≡◌, IfOk, string_bytes};
-ghost use Rattle.cert_text.specs.Claims.{claim};
+ghost use Rattle.cert_text.specs.Statements.{statement};
 ghost use Rattle.job_replay.specs.Texts.{yes_text, manifold_text, shown_text, illegal_text, wrong_end_text};
 
 use cert_text::Certificate;
@@ -8,7 +8,7 @@ use flip_rules::Illegal;
 use job_answer::reason_name;
 use std::alloc::{AllocError, Global};
 
-// The answer to flips that end as claimed.
+// The answer to flips that end as stated.
 fn yes_text(alloc: Global, flips: u64, facets: u64) -> Result<String, AllocError>
     ensures { IfOk result (λ t. string_bytes t ≡ yes_text flips facets) }
 {
@@ -18,7 +18,7 @@ fn yes_text(alloc: Global, flips: u64, facets: u64) -> Result<String, AllocError
     Ok(text)
 }
 
-// The answer to flips of each vertex that end as claimed.
+// The answer to flips of each vertex that end as stated.
 fn manifold_text(alloc: Global, vertices: u64, flips: u64) -> Result<String, AllocError>
     ensures { IfOk result (λ t. string_bytes t ≡ manifold_text vertices flips) }
 {
@@ -28,7 +28,7 @@ fn manifold_text(alloc: Global, vertices: u64, flips: u64) -> Result<String, All
     Ok(text)
 }
 
-/// The answer to a certificate that shows what it claims: how many flips it has, and how many facets their end has, or for a
+/// The answer to a certificate that shows what it states: how many flips it has, and how many facets their end has, or for a
 /// manifold how many vertices.
 pub(crate) fn shown_text(
     alloc: Global,
@@ -36,7 +36,7 @@ pub(crate) fn shown_text(
     flips: u64,
     count: u64,
 ) -> Result<String, AllocError>
-    ensures { IfOk result (λ t. string_bytes t ≡ shown_text (claim certificate.now) flips count) }
+    ensures { IfOk result (λ t. string_bytes t ≡ shown_text (statement certificate.now) flips count) }
 {
     match certificate {
         Certificate::Sphere(_) | Certificate::Equal { .. } => yes_text(alloc, flips, count),

@@ -1,6 +1,6 @@
 -- The laws of the job `sphere`.
 use Rattle.std.proofs.Common.{◌≡◌, ℕ, ◌+◌, ◌⊎◌, inl, inr, List, ◌∷◌, ◌++◌, codes, length, Option, Some, sym, ◌∙◌, ap, subst, arith}
-use Rattle.complex_core.specs.Spaces.{Space}
+use Rattle.complex_core.specs.Complexes.{ComplexView}
 use Rattle.descent_laws.specs.Laws.{IsCycle}
 use Rattle.sphere_text.proofs.Cycles.{cycle_is_decided}
 use Rattle.anneal_plan.specs.Numbers.{Numbers}
@@ -18,17 +18,17 @@ use Rattle.report_text.proofs.Searches.{cycle_is_found, descent_report_is_one}
 
 -- ---- one answer where no round is made
 
-report_of_one : (k : Space) (plan : Numbers) (r q : ReportView) → plan.rounds ≡ 0 → ReportOk k plan r → ReportOk k plan q → length r.descents ≡ length r.rounds + 1 → length q.descents ≡ length q.rounds + 1 → r ≡ q
+report_of_one : (k : ComplexView) (plan : Numbers) (r q : ReportView) → plan.rounds ≡ 0 → ReportOk k plan r → ReportOk k plan q → length r.descents ≡ length r.rounds + 1 → length q.descents ≡ length q.rounds + 1 → r ≡ q
 report_of_one k plan r q z a b m n = descent_report_is_one k plan r q z a b (omega (arith, z, a.few, m)) (omega (arith, z, b.few, n))
 
 -- a report comes to one thing
-same_coming : (k : Space) (plan : Numbers) (r : ReportView) (s t : Status) (xs ys : List ℕ) → ComesTo k plan r s xs → ComesTo k plan r t ys → (s ≡ t) × (xs ≡ ys)
+same_coming : (k : ComplexView) (plan : Numbers) (r : ReportView) (s t : Status) (xs ys : List ℕ) → ComesTo k plan r s xs → ComesTo k plan r t ys → (s ≡ t) × (xs ≡ ys)
 same_coming k plan r s t xs ys (inl a) (inl b) = (a.is_yes ∙ sym b.is_yes, a.says ∙ sym b.says)
 same_coming k plan r s t xs ys (inl a) (inr b) = absurd (not_both k plan r a.sphere b.spent)
 same_coming k plan r s t xs ys (inr a) (inl b) = absurd (not_both k plan r b.sphere a.spent)
 same_coming k plan r s t xs ys (inr a) (inr b) = (a.is_undecided ∙ sym b.is_undecided, a.says ∙ sym b.says)
 
-same_search : (plan : Numbers) (k : Space) (s t : Status) (xs ys : List ℕ) (p q : Option ReportView) → plan.rounds ≡ 0 → IsSearched k plan s xs p → IsSearched k plan t ys q → Same s t xs ys p q
+same_search : (plan : Numbers) (k : ComplexView) (s t : Status) (xs ys : List ℕ) (p q : Option ReportView) → plan.rounds ≡ 0 → IsSearched k plan s xs p → IsSearched k plan t ys q → Same s t xs ys p q
 same_search plan k s t xs ys p q z a b =
     let r : ReportView = a.search.report in
     let c : ComesTo k plan r s xs = a.search.comes in
@@ -38,14 +38,14 @@ same_search plan k s t xs ys p q z a b =
     let o : (s ≡ t) × (xs ≡ ys) = same_coming k plan r s t xs ys c (subst Q (sym i) d) in
     record { statuses = o.0; texts = o.1; reports = a.search.reports ∙ ap (λ (v : ReportView). Some v) i ∙ sym b.search.reports }
 
-same_obstruction : (k : Space) (s t : Status) (xs ys : List ℕ) (p q : Option ReportView) → IsObstructed k s xs p → IsObstructed k t ys q → Same s t xs ys p q
+same_obstruction : (k : ComplexView) (s t : Status) (xs ys : List ℕ) (p q : Option ReportView) → IsObstructed k s xs p → IsObstructed k t ys q → Same s t xs ys p q
 same_obstruction k s t xs ys p q a b = record {
   statuses = a.is_no ∙ sym b.is_no;
   texts = a.says ∙ ap (λ l. codes "no" ++ (10 ∷ l)) (same_line k a.obstacle b.obstacle a.first b.first) ∙ sym b.says;
   reports = a.reports ∙ sym b.reports;
 }
 
-same_sphere : (plan : Numbers) (k : Space) (s t : Status) (xs ys : List ℕ) (p q : Option ReportView) → plan.rounds ≡ 0 → IsSphereAnswer plan k s xs p → IsSphereAnswer plan k t ys q → Same s t xs ys p q
+same_sphere : (plan : Numbers) (k : ComplexView) (s t : Status) (xs ys : List ℕ) (p q : Option ReportView) → plan.rounds ≡ 0 → IsSphereAnswer plan k s xs p → IsSphereAnswer plan k t ys q → Same s t xs ys p q
 same_sphere plan k s t xs ys p q z (inl a) (inl b) = same_obstruction k s t xs ys p q a b
 same_sphere plan k s t xs ys p q z (inl a) (inr b) = absurd (no_obstacle k a.obstacle b.looks a.first)
 same_sphere plan k s t xs ys p q z (inr a) (inl b) = absurd (no_obstacle k b.obstacle a.looks b.first)
@@ -54,13 +54,13 @@ same_sphere plan k s t xs ys p q z (inr a) (inr b) = same_search plan k s t xs y
 -- ---- what is reported
 
 -- the report of a search from a complex is one from its own input
-own_sphere : (k : Space) (plan : Numbers) (r : ReportView) → IsSphere k plan r → IsSphere r.input plan r
-own_sphere k plan r h = let P : Space → Type 0 = λ l. IsSphere l plan r in subst P (sym h.ok.input) h
+own_sphere : (k : ComplexView) (plan : Numbers) (r : ReportView) → IsSphere k plan r → IsSphere r.input plan r
+own_sphere k plan r h = let P : ComplexView → Type 0 = λ l. IsSphere l plan r in subst P (sym h.ok.input) h
 
-own_spent : (k : Space) (plan : Numbers) (r : ReportView) → IsUndecided k plan r → IsUndecided r.input plan r
-own_spent k plan r h = let P : Space → Type 0 = λ l. IsUndecided l plan r in subst P (sym h.ok.input) h
+own_spent : (k : ComplexView) (plan : Numbers) (r : ReportView) → IsUndecided k plan r → IsUndecided r.input plan r
+own_spent k plan r h = let P : ComplexView → Type 0 = λ l. IsUndecided l plan r in subst P (sym h.ok.input) h
 
-coming_fits : (k : Space) (plan : Numbers) (r : ReportView) (s : Status) (xs : List ℕ) (p : Option ReportView) → p ≡ Some r → ComesTo k plan r s xs → FitsSphere plan s p
+coming_fits : (k : ComplexView) (plan : Numbers) (r : ReportView) (s : Status) (xs : List ℕ) (p : Option ReportView) → p ≡ Some r → ComesTo k plan r s xs → FitsSphere plan s p
 coming_fits k plan r s xs p e (inl a) = record {
   yes = λ y. record { report = r; reports = e; sphere = own_sphere k plan r a.sphere };
   no = λ n. let z : Yes ≡ No = sym a.is_yes ∙ n in cc;
@@ -72,7 +72,7 @@ coming_fits k plan r s xs p e (inr a) = record {
   undecided = λ u. record { report = r; reports = e; spent = own_spent k plan r a.spent };
 }
 
-sphere_fits : (plan : Numbers) (k : Space) (s : Status) (xs : List ℕ) (p : Option ReportView) → IsSphereAnswer plan k s xs p → FitsSphere plan s p
+sphere_fits : (plan : Numbers) (k : ComplexView) (s : Status) (xs : List ℕ) (p : Option ReportView) → IsSphereAnswer plan k s xs p → FitsSphere plan s p
 sphere_fits plan k s xs p (inl a) = record {
   yes = λ y. let z : No ≡ Yes = sym a.is_no ∙ y in cc;
   no = λ n. a.reports;
@@ -82,11 +82,11 @@ sphere_fits plan k s xs p (inr a) = coming_fits k plan a.search.report s xs p a.
 
 -- ---- how it ends
 
-coming_ends : (k : Space) (plan : Numbers) (r : ReportView) (s : Status) (xs : List ℕ) → ComesTo k plan r s xs → EndsSearch s
+coming_ends : (k : ComplexView) (plan : Numbers) (r : ReportView) (s : Status) (xs : List ℕ) → ComesTo k plan r s xs → EndsSearch s
 coming_ends k plan r s xs (inl a) = inl a.is_yes
 coming_ends k plan r s xs (inr a) = inr a.is_undecided
 
-sphere_ends : (plan : Numbers) (k : Space) (s : Status) (xs : List ℕ) (p : Option ReportView) → IsSphereAnswer plan k s xs p → (s ≡ No) ⊎ EndsSearch s
+sphere_ends : (plan : Numbers) (k : ComplexView) (s : Status) (xs : List ℕ) (p : Option ReportView) → IsSphereAnswer plan k s xs p → (s ≡ No) ⊎ EndsSearch s
 sphere_ends plan k s xs p (inl a) = inl a.is_no
 sphere_ends plan k s xs p (inr a) = inr (coming_ends k plan a.search.report s xs a.search.comes)
 
@@ -145,11 +145,11 @@ verdict_tells_search plan bytes s xs p a e = done_search plan bytes s xs p (verd
 
 -- ---- dimension 1
 
-cycle_coming : (k : Space) (plan : Numbers) (r : ReportView) (s : Status) (xs : List ℕ) → IsCycle k → ComesTo k plan r s xs → s ≡ Yes
+cycle_coming : (k : ComplexView) (plan : Numbers) (r : ReportView) (s : Status) (xs : List ℕ) → IsCycle k → ComesTo k plan r s xs → s ≡ Yes
 cycle_coming k plan r s xs h (inl a) = a.is_yes
 cycle_coming k plan r s xs h (inr a) = absurd (cycle_is_found k plan r h a.spent)
 
-cycle_yes : (plan : Numbers) (k : Space) (s : Status) (xs : List ℕ) (p : Option ReportView) → IsCycle k → IsSphereAnswer plan k s xs p → s ≡ Yes
+cycle_yes : (plan : Numbers) (k : ComplexView) (s : Status) (xs : List ℕ) (p : Option ReportView) → IsCycle k → IsSphereAnswer plan k s xs p → s ≡ Yes
 cycle_yes plan k s xs p h (inl a) = absurd (no_obstacle k a.obstacle (cycle_is_decided k h).looks a.first)
 cycle_yes plan k s xs p h (inr a) = cycle_coming k plan a.search.report s xs h a.search.comes
 

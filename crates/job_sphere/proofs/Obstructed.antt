@@ -1,6 +1,6 @@
 -- A complex has one first obstacle, or none.
 use Rattle.std.proofs.Common.{◌≡◌, ap, sym, ◌∙◌, refl}
-use Rattle.complex_core.specs.Spaces.{Space}
+use Rattle.complex_core.specs.Complexes.{ComplexView}
 use Rattle.flip_laws.specs.Obstacles.{IsObstacle, LooksLikeSphere}
 use Rattle.flip_laws.specs.declared.obstacle.Obstacle.{Obstacle}
 use Rattle.flip_laws.specs.declared.obstacle.Obstacle.TheVariants as obstacle
@@ -9,13 +9,13 @@ use Rattle.job_answer.proofs.Describing.{same_ridge_line, not_closed, same_apart
 use Rattle.job_sphere.specs.Texts.{obstacle_line}
 
 -- what looks like a sphere has no obstacle
-pub no_obstacle : (k : Space) (o : Obstacle) → LooksLikeSphere k → IsObstacle k o → ⊥
+pub no_obstacle : (k : ComplexView) (o : Obstacle) → LooksLikeSphere k → IsObstacle k o → ⊥
 no_obstacle k (obstacle.NotClosed r) l h = not_closed k.facets r.face r.count l.closed h
 no_obstacle k (obstacle.NotStrong a) l h = not_strong k.facets a.first a.other l.strong h.1
 no_obstacle k (obstacle.Euler n) l h = h.3 (h.2 ∙ l.euler)
 no_obstacle k obstacle.NotOrientable l h = h.3 l.orientable
 
-pub same_line : (k : Space) (o p : Obstacle) → IsObstacle k o → IsObstacle k p → obstacle_line o ≡ obstacle_line p
+pub same_line : (k : ComplexView) (o p : Obstacle) → IsObstacle k o → IsObstacle k p → obstacle_line o ≡ obstacle_line p
 same_line k (obstacle.NotClosed r) (obstacle.NotClosed s) a b = same_ridge_line k.facets r.face s.face r.count s.count a b
 same_line k (obstacle.NotClosed r) (obstacle.NotStrong y) a b = absurd (not_closed k.facets r.face r.count b.0 a)
 same_line k (obstacle.NotClosed r) (obstacle.Euler n) a b = absurd (not_closed k.facets r.face r.count b.0 a)

@@ -1,9 +1,9 @@
 -- What a search from a complex shows.
 use Rattle.std.proofs.Common.{◌≡◌, ℕ, ◌≤◌, inl, inr, List, length, sym, ◌∙◌, ap, refl, Option, Ok, arith}
 use Rattle.std.proofs.lemmas.List.{length-map}
-use Rattle.complex_core.specs.Spaces.{Space}
+use Rattle.complex_core.specs.Complexes.{ComplexView}
 use Rattle.facet_text.specs.Writing.{KeepsLimits as KeepsTextLimits}
-use Rattle.cert_text.specs.Claims.{Sphere}
+use Rattle.cert_text.specs.Statements.{Sphere}
 use Rattle.cert_text.specs.Writing.{AreFlips}
 use Rattle.flip_rules.specs.Certificates.{SphereCert}
 use Rattle.flip_rules.specs.declared.flip.Flip.{Flip}
@@ -19,7 +19,7 @@ use Rattle.job_answer.specs.Meanings.{Judges}
 use Rattle.job_answer.specs.declared.status.Status.{Status}
 use Rattle.job_answer.specs.declared.status.Status.TheVariants.{Yes, Undecided}
 use Rattle.job_replay.specs.Answers.{TellsCertified}
-use Rattle.job_replay.specs.Readings.{behind, claimed}
+use Rattle.job_replay.specs.Readings.{behind, stated}
 use Rattle.job_sphere.specs.Texts.{found_text}
 use Rattle.job_sphere.specs.Answers.{ComesTo, Searches, ShowsHistory, IsCertificate, meaning}
 use Rattle.job_sphere.proofs.Ends.{descents_of, ok_of}
@@ -27,7 +27,7 @@ use Rattle.report_text.proofs.Lengths.{certificate_is_short}
 use Rattle.report_text.proofs.Searches.{end_is_minimal}
 use Rattle.report_text.proofs.Shown.{report_is_shown}
 
-history_of : (plan : Numbers) (k : Space) (s : Status) (xs : List ℕ) (r : ReportView) → KeepsTextLimits k → KeepsLimits plan → ComesTo k plan r s xs → ShowsHistory k plan r
+history_of : (plan : Numbers) (k : ComplexView) (s : Status) (xs : List ℕ) (r : ReportView) → KeepsTextLimits k → KeepsLimits plan → ComesTo k plan r s xs → ShowsHistory k plan r
 history_of plan k s xs r limits numbers c = record {
   ok = ok_of k plan r s xs c;
   shown = report_is_shown k plan r limits numbers (ok_of k plan r s xs c);
@@ -35,19 +35,19 @@ history_of plan k s xs r limits numbers c = record {
 }
 
 -- the complex with the flips behind it tells a sphere
-abbrev certified_tells : (k : Space) (flips : List Flip) → KeepsTextLimits k → length flips ≤ 2520000 → AreFlips flips → SphereCert k flips → TellsCertified (certified k flips)
+abbrev certified_tells : (k : ComplexView) (flips : List Flip) → KeepsTextLimits k → length flips ≤ 2520000 → AreFlips flips → SphereCert k flips → TellsCertified (certified k flips)
 certified_tells k flips limits few fit shows =
     let r : IsReadAgain k flips = certified_is_read k flips limits fit in
     record {
       short = certificate_is_short k flips limits fit few;
       start = k;
-      claim = Sphere flips;
-      input = ap (behind (certified k flips)) r.complex ∙ ap (claimed k) r.certificate;
+      statement = Sphere flips;
+      input = ap (behind (certified k flips)) r.complex ∙ ap (stated k) r.certificate;
       shows = shows;
     }
 
 -- a Yes has its certificate
-certificate_of : (xs : List ℕ) (plan : Numbers) (k : Space) (r : ReportView) → KeepsTextLimits k → KeepsLimits plan → IsSphere k plan r → xs ≡ found_text (length r.rounds) (told_flips r) → IsCertificate k r xs
+certificate_of : (xs : List ℕ) (plan : Numbers) (k : ComplexView) (r : ReportView) → KeepsTextLimits k → KeepsLimits plan → IsSphere k plan r → xs ≡ found_text (length r.rounds) (told_flips r) → IsCertificate k r xs
 certificate_of xs plan k r limits numbers h says =
     let i : IsReported k plan r = report_is_shown k plan r limits numbers h.ok in
     record {
@@ -59,12 +59,12 @@ certificate_of xs plan k r limits numbers h says =
       of_sphere = refl;
     }
 
-certified_coming : (xs : List ℕ) (plan : Numbers) (k : Space) (s : Status) (r : ReportView) → KeepsTextLimits k → KeepsLimits plan → ComesTo k plan r s xs → s ≡ Yes → IsCertificate k r xs
+certified_coming : (xs : List ℕ) (plan : Numbers) (k : ComplexView) (s : Status) (r : ReportView) → KeepsTextLimits k → KeepsLimits plan → ComesTo k plan r s xs → s ≡ Yes → IsCertificate k r xs
 certified_coming xs plan k s r limits numbers (inl a) y = certificate_of xs plan k r limits numbers a.sphere a.says
 certified_coming xs plan k s r limits numbers (inr a) y = let z : Undecided ≡ Yes = sym a.is_undecided ∙ y in cc
 
 -- so a search from a complex that lacks no fact of a sphere is its answer
-pub search_judged : (plan : Numbers) (bytes : List ℕ) (k : Space) (s : Status) (xs : List ℕ) (p : Option ReportView) → complex_of bytes ≡ Ok k → LooksLikeSphere k → KeepsTextLimits k → KeepsLimits plan → Searches k plan s xs p → Judges (meaning plan) bytes s xs p
+pub search_judged : (plan : Numbers) (bytes : List ℕ) (k : ComplexView) (s : Status) (xs : List ℕ) (p : Option ReportView) → complex_of bytes ≡ Ok k → LooksLikeSphere k → KeepsTextLimits k → KeepsLimits plan → Searches k plan s xs p → Judges (meaning plan) bytes s xs p
 search_judged plan bytes k s xs p e looks limits numbers h = inr (record {
   told = k;
   input = e;

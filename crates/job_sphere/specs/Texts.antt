@@ -1,7 +1,7 @@
 -- The texts that `sphere` answers. Each line ends with a line feed.
 use Rattle.std.specs.Prelude.{ℕ, List, [], ◌∷◌, ◌++◌, codes}
 use Rattle.std.specs.Fmt.{decimal}
-use Rattle.cert_text.specs.Claims.{Sphere}
+use Rattle.cert_text.specs.Statements.{Sphere}
 use Rattle.cert_text.specs.Writing.{text_of}
 use Rattle.flip_rules.specs.declared.flip.Flip.{Flip}
 use Rattle.flip_laws.specs.declared.obstacle.Obstacle.{Obstacle}

@@ -2,7 +2,7 @@
 use Rattle.std.proofs.Common.{◌≡◌, ℕ, ◌+◌, ◌-◌, ◌<◌, ◌≤◌, Bool, true, false, ◌&&◌, if◌then◌else◌, List, [], ◌++◌, length, sym, ◌∙◌, ap, subst, arith, append_assoc}
 use Rattle.std.specs.List.{list_all}
 use Rattle.std.proofs.lemmas.List.{length-replicate}
-use Rattle.complex_core.specs.Spaces.{Space, IsComplex}
+use Rattle.complex_core.specs.Complexes.{ComplexView, IsComplex}
 use Rattle.complex_core.specs.Maps.{turned, pair_cmp, takes, takes_all, renamed, names_of, used, greatest}
 use Rattle.complex_core.specs.Rising.{rising}
 use Rattle.complex_core.proofs.Renaming.{named}
@@ -22,10 +22,10 @@ use Rattle.job_trace.proofs.RunNames.{few_names, name_taken, replay_named}
 
 -- ---- the opened core
 
-pub places_turned : (k : Space) (room : ℕ) (ns places : List (ℕ × ℕ)) → IsComplex k → ns ≡ names_of k.facets room → places ≡ rising pair_cmp (turned ns) → places ≡ turned ns
+pub places_turned : (k : ComplexView) (room : ℕ) (ns places : List (ℕ × ℕ)) → IsComplex k → ns ≡ names_of k.facets room → places ≡ rising pair_cmp (turned ns) → places ≡ turned ns
 places_turned k room ns places h en ep = ep ∙ ap (λ ms. rising pair_cmp (turned ms)) en ∙ (named k room h).places ∙ ap turned (sym en)
 
-pub is_opened : (t : Trace) (ns shown : List (ℕ × ℕ)) (ground : Space) (count : ℕ) (world : Core) → ns ≡ names t → ground ≡ renamed t.start (turned ns) → shown ≡ ns → count ≡ length shown → world ≡ opened ground count t.workers → world ≡ opened_for t
+pub is_opened : (t : Trace) (ns shown : List (ℕ × ℕ)) (ground : ComplexView) (count : ℕ) (world : Core) → ns ≡ names t → ground ≡ renamed t.start (turned ns) → shown ≡ ns → count ≡ length shown → world ≡ opened ground count t.workers → world ≡ opened_for t
 is_opened t ns shown ground count world en eg es ec ew =
     ew ∙ (λ i. opened ((eg ∙ ap (λ ms. renamed t.start (turned ms)) en) i) ((ec ∙ ap (λ (ps : List (ℕ × ℕ)). length ps) (es ∙ en)) i) t.workers)
 
@@ -37,7 +37,7 @@ pub record Ended (t : Trace) (ns : List (ℕ × ℕ)) (last : Core) : Type 0 whe
   pub start : renamed last.start (names t) ≡ t.start
   pub serial : Serial last
 
-pub run_ended : (t : Trace) (ns : List (ℕ × ℕ)) (ground : Space) (accepted : Bool) (text : List ℕ) (last : Core) → HasRun t t.events accepted text last → IsComplex ground → ns ≡ names t → ground ≡ renamed t.start (turned ns) → takes_all ns ground.facets ≡ true → renamed ground ns ≡ t.start → Ended t ns last
+pub run_ended : (t : Trace) (ns : List (ℕ × ℕ)) (ground : ComplexView) (accepted : Bool) (text : List ℕ) (last : Core) → HasRun t t.events accepted text last → IsComplex ground → ns ≡ names t → ground ≡ renamed t.start (turned ns) → takes_all ns ground.facets ≡ true → renamed ground ns ≡ t.start → Ended t ns last
 run_ended t ns ground accepted text last h complex en eg all back =
     let same : ground ≡ renamed t.start (turned (names t)) = eg ∙ ap (λ ms. renamed t.start (turned ms)) en in
     let there : IsComplex (renamed t.start (turned (names t))) = subst IsComplex same complex in
@@ -47,9 +47,9 @@ run_ended t ns ground accepted text last h complex en eg all back =
     record {
       workers = kept.workers ∙ length-replicate {A = List Flip} t.workers [];
       taken = replay_named ns last.start (complex_of last) (flat last.journal)
-          (let Q : Space → Type 0 = λ k. IsComplex k in (subst Q (sym start) complex).rising)
+          (let Q : ComplexView → Type 0 = λ k. IsComplex k in (subst Q (sym start) complex).rising)
           (replay_end last.start (flat last.journal) kept.serial.replays)
-          (ap (λ (k : Space). takes_all ns k.facets) start ∙ all)
+          (ap (λ (k : ComplexView). takes_all ns k.facets) start ∙ all)
           (λ p touched. let label : (0 < p) × (p ≤ length (names t)) = few_places p (kept.journal p touched) in ap (λ ms. takes ms p) en ∙ name_taken t.start.facets t.room p label.0 label.1);
       start = (λ i. renamed (start i) (sym en i)) ∙ back;
       serial = kept.serial;
@@ -92,10 +92,10 @@ few_places_of t shown ns pairs v h l en es =
     let P : Trace → Type 0 = λ x. greatest (used x.start.facets) + x.room ≤ 65535 in
     few_names shown.start shown.room ns pairs h (subst P v l) en es
 
-pub is_opened_as : (t shown : Trace) (ns pairs : List (ℕ × ℕ)) (ground : Space) (count : ℕ) (world : Core) → t ≡ shown → ns ≡ names shown → ground ≡ renamed shown.start (turned ns) → pairs ≡ ns → count ≡ length pairs → world ≡ opened ground count shown.workers → world ≡ opened_for t
+pub is_opened_as : (t shown : Trace) (ns pairs : List (ℕ × ℕ)) (ground : ComplexView) (count : ℕ) (world : Core) → t ≡ shown → ns ≡ names shown → ground ≡ renamed shown.start (turned ns) → pairs ≡ ns → count ≡ length pairs → world ≡ opened ground count shown.workers → world ≡ opened_for t
 is_opened_as t shown ns pairs ground count world v en eg es ec ew = is_opened shown ns pairs ground count world en eg es ec ew ∙ ap opened_for (sym v)
 
-pub ended_as : (t shown : Trace) (ns : List (ℕ × ℕ)) (ground : Space) (accepted : Bool) (text : List ℕ) (last : Core) → t ≡ shown → HasRun t t.events accepted text last → IsComplex ground → ns ≡ names shown → ground ≡ renamed shown.start (turned ns) → takes_all ns ground.facets ≡ true → renamed ground ns ≡ shown.start → Ended t ns last
+pub ended_as : (t shown : Trace) (ns : List (ℕ × ℕ)) (ground : ComplexView) (accepted : Bool) (text : List ℕ) (last : Core) → t ≡ shown → HasRun t t.events accepted text last → IsComplex ground → ns ≡ names shown → ground ≡ renamed shown.start (turned ns) → takes_all ns ground.facets ≡ true → renamed ground ns ≡ shown.start → Ended t ns last
 ended_as t shown ns ground accepted text last v h complex en eg all back =
     run_ended t ns ground accepted text last h complex (en ∙ ap names (sym v)) (eg ∙ ap (λ (x : Trace). renamed x.start (turned ns)) (sym v)) all (back ∙ ap (λ (x : Trace). x.start) (sym v))
 

@@ -2,7 +2,7 @@
 use Rattle.std.proofs.Common.{◌≡◌, ℕ, ◌-◌, ◌<◌, ◌≤◌, Bool, true, false, ◌||◌, ◌⊎◌, inl, inr, List, [], ◌∷◌, ◌++◌, length, Result, Ok, Err, sym, ◌∙◌, ap, refl, subst, arith}
 use Rattle.std.proofs.lemmas.List.{length-set}
 use Rattle.std.proofs.lemmas.Bool.{true≢false}
-use Rattle.complex_core.specs.Spaces.{Space}
+use Rattle.complex_core.specs.Complexes.{ComplexView}
 use Rattle.flip_rules.specs.Journals.{flat}
 use Rattle.flip_rules.specs.declared.flip.Flip.{Flip}
 use Rattle.star_laws.specs.Stars.{Rises, flips_touch}
@@ -104,7 +104,7 @@ pub record Kept (first c : Core) : Type 0 where
 kept_step : (first c next : Core) (e : Event) (answer : Result Told Refused) → Rises first.start → Kept first c → IsEvent e → Step c e answer next → Kept first next
 kept_step first c next e answer r k is_event step =
     let m : Moves c next = step_moves c next e answer k.serial step in
-    let n : Serial next × (next.start ≡ c.start) = step_next c next e answer (let P : Space → Type 0 = λ x. Rises x in subst P (sym k.start) r) k.serial is_event step in
+    let n : Serial next × (next.start ≡ c.start) = step_next c next e answer (let P : ComplexView → Type 0 = λ x. Rises x in subst P (sym k.start) r) k.serial is_event step in
     record {
       serial = n.0;
       start = n.1 ∙ k.start;
@@ -120,7 +120,7 @@ kept_run : (first c : Core) (ts : List Turn) → Rises first.start → Kept firs
 kept_run first c [] r k run = k
 kept_run first c (t ∷ ts) r k run = kept_run first t.next ts r (kept_step first c t.next t.event t.answer r k run.0 run.1) run.2
 
-pub opened_kept : (start : Space) (places workers : ℕ) (ts : List Turn) → Rises start → IsRun (opened start places workers) ts → Kept (opened start places workers) (end_of (opened start places workers) ts)
+pub opened_kept : (start : ComplexView) (places workers : ℕ) (ts : List Turn) → Rises start → IsRun (opened start places workers) ts → Kept (opened start places workers) (end_of (opened start places workers) ts)
 opened_kept start places workers ts r run = kept_run (opened start places workers) (opened start places workers) ts r (record {
   serial = opened_serial start places workers;
   start = refl;

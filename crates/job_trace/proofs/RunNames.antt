@@ -10,7 +10,7 @@ use Rattle.std.proofs.lemmas.Bool.{true≢false}
 use Rattle.std.proofs.lemmas.Cmp.{nat_cmp_total}
 use Rattle.std.proofs.lemmas.List.Folds.{list_any-append}
 use Rattle.complex_core.specs.Labels.{has}
-use Rattle.complex_core.specs.Spaces.{Space, IsComplex}
+use Rattle.complex_core.specs.Complexes.{ComplexView, IsComplex}
 use Rattle.complex_core.specs.Maps.{takes, at, turned, takes_all, names_of, used, greatest, next_after}
 use Rattle.flip_world.specs.declared.event.Event.{Event}
 use Rattle.flip_world.specs.declared.event.Event.TheVariants as event
@@ -67,7 +67,7 @@ front_rises low (x ∷ xs) ys s =
     let first : nat_cmp low x ≡ Less = (above_head nat_cmp low (x ∷ xs ++ ys) s).0 in
     above_cons nat_cmp low (x ∷ xs) (first, above_lower nat_cmp_total low x xs first (above_head nat_cmp x xs rest)) rest
 
-pub few_names : (k : Space) (room : ℕ) (ns shown : List (ℕ × ℕ)) → IsComplex k → greatest (used k.facets) + room ≤ 65535 → ns ≡ names_of k.facets room → shown ≡ ns → length shown ≤ 65535
+pub few_names : (k : ComplexView) (room : ℕ) (ns shown : List (ℕ × ℕ)) → IsComplex k → greatest (used k.facets) + room ≤ 65535 → ns ≡ names_of k.facets room → shown ≡ ns → length shown ≤ 65535
 few_names k room ns shown h l en es =
     let n : Named k room = named k room h in
     omega (arith, ap (λ (ps : List (ℕ × ℕ)). length ps) (es ∙ en), length_numbered 1 (used k.facets ++ next_after (greatest (used k.facets)) room), length-append (used k.facets) (next_after (greatest (used k.facets)) room), length_next (greatest (used k.facets)) room, few_used (used k.facets) (front_rises 0 (used k.facets) _ n.labels), l)
@@ -103,7 +103,7 @@ used_passes q (f ∷ fs) x all h =
     ] refl (sym (list_any-append (λ y. nat_eq y x) f (flat_map (λ g. g) fs)) ∙ h)
 
 -- where the labels of a complex and of flips have names, so have those of the complex after the flips
-pub replay_named : (ns : List (ℕ × ℕ)) (k m : Space) (flips : List Flip) → Rises k → replay k flips ≡ Some m → takes_all ns k.facets ≡ true → ((p : ℕ) → flips_touch p flips ≡ true → takes ns p ≡ true) → takes_all ns m.facets ≡ true
+pub replay_named : (ns : List (ℕ × ℕ)) (k m : ComplexView) (flips : List Flip) → Rises k → replay k flips ≡ Some m → takes_all ns k.facets ≡ true → ((p : ℕ) → flips_touch p flips ≡ true → takes ns p ≡ true) → takes_all ns m.facets ≡ true
 replay_named ns k m flips r e all touched = each_label (takes ns) m.facets (λ x h.
     elim (flips_touch x flips) as (λ b. flips_touch x flips ≡ b → takes ns x ≡ true) [
       | true ↦ λ t. touched x t

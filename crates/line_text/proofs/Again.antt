@@ -42,12 +42,12 @@ pub word_first : (at : ℕ) (w : List ℕ) (c : ℕ) (rest : List ℕ) → 0 < l
     → items_past 0 at (w ++ c ∷ rest) ≡ word w at ∷ items_past 0 (at + length w) (c ∷ rest)
 word_first at [] c rest some all blank = absurd (omega arith)
 word_first at (b ∷ w) c rest some all blank =
-    let place : at + 1 + length w ≡ at + suc (length w) = omega arith in
+    let offset : at + 1 + length w ≡ at + suc (length w) = omega arith in
     word_step at b (w ++ c ∷ rest) all.0
-    ∙ rw (solid_front w c rest all.1 blank, solid_len w c rest all.1 blank, drop_at w (c ∷ rest) (length w) refl, place) refl
+    ∙ rw (solid_front w c rest all.1 blank, solid_len w c rest all.1 blank, drop_at w (c ∷ rest) (length w) refl, offset) refl
 
-pub space_first : (at : ℕ) (rest : List ℕ) → items_past 0 at (32 ∷ rest) ≡ items_past 0 (at + 1) rest
-space_first at rest = pass_here at 32 rest refl refl
+pub complex_first : (at : ℕ) (rest : List ℕ) → items_past 0 at (32 ∷ rest) ≡ items_past 0 (at + 1) rest
+complex_first at rest = pass_here at 32 rest refl refl
 
 pub feed_first : (at : ℕ) (rest : List ℕ) → items_past 0 at (10 ∷ rest) ≡ line_end at ∷ items_past 0 (at + 1) rest
 feed_first at rest = feed_here at 10 rest refl
@@ -124,7 +124,7 @@ unfolding second_from
 second_label labels first done at n low c rest lt allowed all room blank =
     let small = allowed_small labels n allowed in
     let put : with done (digits_value 10 (decimal n)) ≡ done ++ n ∷ [] = rw (decimal_number n small).value (put_last n low done lt all) in
-    rw (space_first at (decimal n ++ c ∷ rest), number_first (at + 1) n c rest small blank)
+    rw (complex_first at (decimal n ++ c ∷ rest), number_first (at + 1) n c rest small blank)
     (label_passes labels (at + 1) n low done _ lt allowed all room ∙ rw put refl)
 
 digit_low : (b : ℕ) → is_digit b ≡ true → b ≤ 57
@@ -153,21 +153,21 @@ first_label labels done at n low rest lt allowed all room =
     ∙ ap (first_from labels done) (number_first at n 32 rest small refl)
     ∙ no_bar labels done (decimal n) at (items_past 0 (at + length (decimal n)) (32 ∷ rest)) is.number
     ∙ label_passes labels at n low done _ lt allowed all room
-    ∙ rw (put, space_first (at + length (decimal n)) rest) refl
+    ∙ rw (put, complex_first (at + length (decimal n)) rest) refl
 
 -- the rest of the labels of A
 firsts_again : (labels : Labels) (ns done : List ℕ) (at low p : ℕ) (rest : List ℕ) → Rises labels low ns → AtMost low done → length done + length ns ≤ 7 → p ≡ at + length (flat_map spaced ns)
     → first_from labels done (items_past 0 at (flat_map spaced ns ++ rest)) ≡ first_from labels (done ++ ns) (items_past 0 p rest)
-firsts_again labels [] done at low p rest rising all room place =
-    let here : p ≡ at = omega (arith, place) in
+firsts_again labels [] done at low p rest rising all room offset =
+    let here : p ≡ at = omega (arith, offset) in
     rw (here, append-nil done) refl
-firsts_again labels (n ∷ ns) done at low p rest rising all room place =
+firsts_again labels (n ∷ ns) done at low p rest rising all room offset =
     let tail = flat_map spaced ns ++ rest in
     let next = at + length (decimal n) + 1 in
     ap (λ (bs : List ℕ). first_from labels done (items_past 0 at bs)) (append_assoc (spaced n) (flat_map spaced ns) rest)
     ∙ first_label labels done at n low tail rising.0 rising.1 all (omega arith)
     ∙ firsts_again labels ns (done ++ n ∷ []) next n p rest rising.2 (at_most_push low n done rising.0 all) (omega (arith, length-append done (n ∷ [])))
-    (omega (arith, place, length-append (spaced n) (flat_map spaced ns), length-append (decimal n) (32 ∷ [])))
+    (omega (arith, offset, length-append (spaced n) (flat_map spaced ns), length-append (decimal n) (32 ∷ [])))
     ∙ ap (λ (side : List ℕ). first_from labels side (items_past 0 p rest)) (append_assoc done (n ∷ []) ns)
 
 -- behind a label of B a blank stands
@@ -178,10 +178,10 @@ blank_next (n ∷ ns) rest = (32, (decimal n ++ flat_map set_off ns) ++ 10 ∷ r
 -- the rest of the labels of B
 seconds_again : (labels : Labels) (first ns done : List ℕ) (at low p : ℕ) (rest : List ℕ) → Rises labels low ns → AtMost low done → length done + length ns ≤ 7 → p ≡ at + length (flat_map set_off ns)
     → second_from labels first done (items_past 0 at (flat_map set_off ns ++ 10 ∷ rest)) ≡ second_from labels first (done ++ ns) (items_past 0 p (10 ∷ rest))
-seconds_again labels first [] done at low p rest rising all room place =
-    let here : p ≡ at = omega (arith, place) in
+seconds_again labels first [] done at low p rest rising all room offset =
+    let here : p ≡ at = omega (arith, offset) in
     rw (here, append-nil done) refl
-seconds_again labels first (n ∷ ns) done at low p rest rising all room place =
+seconds_again labels first (n ∷ ns) done at low p rest rising all room offset =
     let next = at + 1 + length (decimal n) in
     let blank = blank_next ns rest in
     let text : flat_map set_off (n ∷ ns) ++ 10 ∷ rest ≡ 32 ∷ (decimal n ++ blank.0 ∷ blank.1) =
@@ -190,7 +190,7 @@ seconds_again labels first (n ∷ ns) done at low p rest rising all room place =
     ∙ second_label labels first done at n low blank.0 blank.1 rising.0 rising.1 all (omega arith) blank.3
     ∙ ap (λ (bs : List ℕ). second_from labels first (done ++ n ∷ []) (items_past 0 next bs)) (sym blank.2)
     ∙ seconds_again labels first ns (done ++ n ∷ []) next n p rest rising.2 (at_most_push low n done rising.0 all) (omega (arith, length-append done (n ∷ [])))
-    (omega (arith, place, length-append (set_off n) (flat_map set_off ns)))
+    (omega (arith, offset, length-append (set_off n) (flat_map set_off ns)))
     ∙ ap (λ (side : List ℕ). second_from labels first side (items_past 0 p (10 ∷ rest))) (append_assoc done (n ∷ []) ns)
 
 -- ---- a flip

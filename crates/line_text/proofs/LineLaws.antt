@@ -19,9 +19,9 @@ to_end at (b ∷ bs) p rest e = elim (cases_Bool (is_blank b)) [
     | inl feed ↦ rw (feed, add-zero, feed) refl
     | inr other ↦
         let n = prefix_len (λ b. not (is_feed b)) bs in
-        let place : at + 1 + n ≡ at + suc n = omega arith in
+        let offset : at + 1 + n ≡ at + suc n = omega arith in
         let width : prefix_len (λ b. not (is_feed b)) (b ∷ bs) ≡ suc n = rw other (omega arith) in
-        pass_here at b bs other blank ∙ to_end (at + 1) bs p rest (sym (pass_here at b bs other blank) ∙ e) ∙ rw (width, place) refl
+        pass_here at b bs other blank ∙ to_end (at + 1) bs p rest (sym (pass_here at b bs other blank) ∙ e) ∙ rw (width, offset) refl
   ]
 ]
 
@@ -55,15 +55,15 @@ end_of at [] are = rw add-zero (one_end at)
 end_of at (b ∷ bs) are = elim (cases_Bool (is_blank b)) [
   | inr solid ↦ absurd (subst AreEnds (word_step at b bs solid) are)
   | inl blank ↦
-      let place : at + 1 + length bs ≡ at + suc (length bs) = omega arith in
+      let offset : at + 1 + length bs ≡ at + suc (length bs) = omega arith in
       elim (cases_Bool (is_feed b)) [
         | inl feed ↦
             let more = some_item (at + 1) bs in
             let rest : AreEnds (items_past 0 (at + 1) bs) = subst AreEnds (feed_here at b bs feed) are in
             ap line_start (feed_here at b bs feed ∙ ap (λ (is : List Item). line_end at ∷ is) more.2) ∙ feed_start at more.0 more.1 ∙ ap line_start (sym more.2)
-            ∙ end_of (at + 1) bs rest ∙ ap (λ (k : ℕ). line_end k ∷ []) place
+            ∙ end_of (at + 1) bs rest ∙ ap (λ (k : ℕ). line_end k ∷ []) offset
         | inr other ↦
-            ap line_start (pass_here at b bs other blank) ∙ end_of (at + 1) bs (subst AreEnds (pass_here at b bs other blank) are) ∙ ap (λ (k : ℕ). line_end k ∷ []) place
+            ap line_start (pass_here at b bs other blank) ∙ end_of (at + 1) bs (subst AreEnds (pass_here at b bs other blank) are) ∙ ap (λ (k : ℕ). line_end k ∷ []) offset
       ]
 ]
 

@@ -29,7 +29,7 @@ line_start (word text at ∷ is) = word text at ∷ is
 line_start (line_end at ∷ []) = line_end at ∷ []
 line_start (line_end at ∷ i ∷ is) = line_start (i ∷ is)
 
--- A number on this line: its value where that has 32 bits, its place, and the items after it. (No list of items is empty.)
+-- A number on this line: its value where that has 32 bits, its offset, and the items after it. (No list of items is empty.)
 unfoldable pub number_at : List Item → Result (Option ℕ × ℕ × List Item) LineFault
 number_at [] = Err (fault.Syntax 0)
 number_at (line_end at ∷ is) = Err (fault.Syntax at)

@@ -50,71 +50,71 @@ fn is_bar(text: &[u8]) -> bool
     matches!(text, b"|")
 }
 
-/// Reads the labels of A, and answers them with the place after the word `|`.
+/// Reads the labels of A, and answers them with the offset after the word `|`.
 #[tactic(auto, unfolding(crate::specs::Flips::first_from))]
 fn read_first(bytes: &[u8], from: usize, labels: Labels<'_>) -> Result<(Face, usize), LineFault>
     requires { from ≤ length bytes.now }
     ensures goes_on { MatchResult result
         (λ x. flip_at labels.entry (items bytes.now from) ≡ second_from labels.entry x.0 [] (items bytes.now x.1))
         (λ e. flip_at labels.entry (items bytes.now from) ≡ Err e) }
-    ensures place { IfOk result (λ x. (from < x.1) × (x.1 ≤ length bytes.now)) }
+    ensures offset { IfOk result (λ x. (from < x.1) × (x.1 ≤ length bytes.now)) }
 {
     let mut side = Face::new();
-    let mut place = from;
+    let mut offset = from;
     'words: loop {
-        let word = match word_here(bytes, place) {
+        let word = match word_here(bytes, offset) {
             Ok(word) => word,
             Err(end) => return Err(LineFault::Syntax(end)),
         };
-        place = word.end;
+        offset = word.end;
         if is_bar(word.text) {
             if side.is_empty() {
                 return Err(LineFault::Syntax(word.start));
             }
-            return Ok((side, place));
+            return Ok((side, offset));
         }
         add_label(&word, labels, &mut side)?;
     }
 }
 
-/// Reads the labels of B, and answers them with the place after the last one.
+/// Reads the labels of B, and answers them with the offset after the last one.
 #[tactic(auto, unfolding(crate::specs::Flips::second_from))]
 fn read_second(bytes: &[u8], from: usize, labels: Labels<'_>) -> Result<(Face, usize), LineFault>
     requires { from ≤ length bytes.now }
     ensures goes_on { (first : List ℕ) → MatchResult result
         (λ x. second_from labels.entry first [] (items bytes.now from) ≡ Ok (record { a = first; b = x.0 }, items bytes.now x.1))
         (λ e. second_from labels.entry first [] (items bytes.now from) ≡ Err e) }
-    ensures place { IfOk result (λ x. (from ≤ x.1) × (x.1 ≤ length bytes.now)) }
+    ensures offset { IfOk result (λ x. (from ≤ x.1) × (x.1 ≤ length bytes.now)) }
 {
     let mut side = Face::new();
-    let mut place = from;
+    let mut offset = from;
     'words: loop {
-        let word = match word_here(bytes, place) {
+        let word = match word_here(bytes, offset) {
             Ok(word) => word,
             Err(end) => {
                 if side.is_empty() {
                     return Err(LineFault::Syntax(end));
                 }
-                return Ok((side, place));
+                return Ok((side, offset));
             }
         };
-        place = word.end;
+        offset = word.end;
         add_label(&word, labels, &mut side)?;
     }
 }
 
-/// Reads the flip on the rest of a line, and answers it with the place after its last label.
+/// Reads the flip on the rest of a line, and answers it with the offset after its last label.
 ///
 /// A side has 1 to 7 labels, in any order and none twice. A side that ends with its line has the
-/// place of the line's end.
+/// offset of the line's end.
 pub fn read_flip(bytes: &[u8], from: usize, labels: Labels<'_>) -> Result<(Flip, usize), LineFault>
     requires { from ≤ length bytes.now }
     ensures read { MatchResult result
         (λ x. flip_at labels.entry (items bytes.now from) ≡ Ok (x.0, items bytes.now x.1))
         (λ e. flip_at labels.entry (items bytes.now from) ≡ Err e) }
-    ensures place { IfOk result (λ x. (from < x.1) × (x.1 ≤ length bytes.now)) }
+    ensures offset { IfOk result (λ x. (from < x.1) × (x.1 ≤ length bytes.now)) }
 {
     let (a, middle) = read_first(bytes, from, labels)?;
-    let (b, place) = read_second(bytes, middle, labels)?;
-    Ok((Flip { a, b }, place))
+    let (b, offset) = read_second(bytes, middle, labels)?;
+    Ok((Flip { a, b }, offset))
 }

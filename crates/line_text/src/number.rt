@@ -16,9 +16,9 @@ const TOO_GREAT: u64 = 4_294_967_296;
 pub struct Number {
     /// Its value. `None` exactly where that is more than 4,294,967,295.
     pub value: Option<u32>,
-    /// The place of its first digit.
+    /// The offset of its first digit.
     pub start: usize,
-    /// The place after its last digit.
+    /// The offset after its last digit.
     pub end: usize,
 }
 
@@ -69,7 +69,7 @@ pub fn number_here(bytes: &[u8], from: usize) -> Result<Number, LineFault>
     ensures read { MatchResult result
         (λ n. number_at (items bytes.now from) ≡ Ok (n.value, n.start, items bytes.now n.end))
         (λ e. number_at (items bytes.now from) ≡ Err e) }
-    ensures place { IfOk result (λ n. (from < n.end) × (n.end ≤ length bytes.now)) }
+    ensures offset { IfOk result (λ n. (from < n.end) × (n.end ≤ length bytes.now)) }
 {
     let word = match word_here(bytes, from) {
         Ok(word) => word,

@@ -8,11 +8,11 @@ ghost use Rattle.line_text.specs.Numbers.{end_at, line_start};
 use crate::fault::LineFault;
 use facet_text::{Word, next_word};
 
-/// Where the line ends: the place of its line feed, or the input's length.
+/// Where the line ends: the offset of its line feed, or the input's length.
 fn line_end(bytes: &[u8], from: usize) -> usize
     requires { from ≤ length bytes.now }
     ensures end { result ≡ from + prefix_len (λ b. not (is_feed b)) (drop from bytes.now) }
-    ensures place { (from ≤ result) × (result ≤ length bytes.now) }
+    ensures offset { (from ≤ result) × (result ≤ length bytes.now) }
 {
     let mut end = from;
     while end < bytes.len() && bytes[end] != b'\n' {
@@ -21,14 +21,14 @@ fn line_end(bytes: &[u8], from: usize) -> usize
     end
 }
 
-/// The next word on this line, or the place of the line's end, from which on the same follows.
+/// The next word on this line, or the offset of the line's end, from which on the same follows.
 pub fn word_here(bytes: &[u8], from: usize) -> Result<Word<'_>, usize>
     requires { from ≤ length bytes.now }
     ensures item { MatchResult result
         (λ w. items bytes.now from ≡ view w ∷ items bytes.now w.end)
         (λ end. (rest : List Item) × (items bytes.now from ≡ Item.line_end end ∷ rest)) }
     ensures end { IfErr result (λ end. items bytes.now from ≡ items bytes.now end) }
-    ensures place { IfOk result (λ w. (from < w.end) × (w.end ≤ length bytes.now)) }
+    ensures offset { IfOk result (λ w. (from < w.end) × (w.end ≤ length bytes.now)) }
     ensures within { IfErr result (λ end. (from ≤ end) × (end ≤ length bytes.now)) }
 {
     match next_word(bytes, from) {
@@ -43,7 +43,7 @@ pub fn word_here(bytes: &[u8], from: usize) -> Result<Word<'_>, usize>
     }
 }
 
-/// The place of this line's end, before which no word may stand.
+/// The offset of this line's end, before which no word may stand.
 #[tactic(auto, unfolding(crate::specs::Numbers::end_at))]
 pub fn end_here(bytes: &[u8], from: usize) -> Result<usize, LineFault>
     requires { from ≤ length bytes.now }
@@ -51,7 +51,7 @@ pub fn end_here(bytes: &[u8], from: usize) -> Result<usize, LineFault>
         (λ end. end_at (items bytes.now from) ≡ Ok (items bytes.now end))
         (λ e. end_at (items bytes.now from) ≡ Err e) }
     ensures end { IfOk result (λ end. (rest : List Item) × (items bytes.now end ≡ Item.line_end end ∷ rest)) }
-    ensures place { IfOk result (λ end. (from ≤ end) × (end ≤ length bytes.now)) }
+    ensures offset { IfOk result (λ end. (from ≤ end) × (end ≤ length bytes.now)) }
 {
     match word_here(bytes, from) {
         Ok(word) => Err(LineFault::Syntax(word.start)),
@@ -66,7 +66,7 @@ pub fn first_word(bytes: &[u8], from: usize) -> Option<Word<'_>>
         (line_start (items bytes.now from) ≡ Item.line_end (length bytes.now) ∷ [])
         (λ w. line_start (items bytes.now from) ≡ view w ∷ items bytes.now w.end) }
     ensures here { IfSome result (λ w. items bytes.now w.start ≡ view w ∷ items bytes.now w.end) }
-    ensures place { IfSome result (λ w. (from ≤ w.start) × (w.start < w.end) × (w.end ≤ length bytes.now)) }
+    ensures offset { IfSome result (λ w. (from ≤ w.start) × (w.start < w.end) × (w.end ≤ length bytes.now)) }
 {
     next_word(bytes, from)
 }

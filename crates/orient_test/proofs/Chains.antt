@@ -4,7 +4,7 @@ use mathlib.Core.List.{reverse}
 use Rattle.std.proofs.lemmas.List.{reverse-append, get_or_default}
 use Rattle.pseudo_test.specs.Ridges.{count}
 use Rattle.orient_test.specs.declared.search.Reached.{Reached}
-use Rattle.orient_test.specs.Signs.{odd, times, place, induced, IsOrientation, Orientable}
+use Rattle.orient_test.specs.Signs.{odd, times, position, induced, IsOrientation, Orientable}
 use Rattle.orient_test.specs.Walks.{Step, IsStep, Walk, turn, turning, IsChain, IsClash}
 use Rattle.orient_test.specs.Spreads.{at, IsTree, Contradicts, CameFrom}
 use Rattle.complex_core.proofs.SubsetLists.{clash}
@@ -66,7 +66,7 @@ walked : (fs : List (List ℕ)) (s : List ℕ → Bool) → IsOrientation fs s �
 walked fs s o f g [] w = ap s (sym w) ∙ times_none (s f)
 walked fs s o f g (step ∷ steps) w =
     let p : induced s f step.left ≡ not (induced s step.to step.taken) = o.opposite f step.to step.left step.taken w.0.from_there w.0.to_there w.0.left_used w.0.taken_used w.0.other w.0.shared w.0.two in
-    let q : s step.to ≡ times (s f) (turn f step) = next_sign (s f) (s step.to) (odd (place f step.left)) (odd (place step.to step.taken)) p in
+    let q : s step.to ≡ times (s f) (turn f step) = next_sign (s f) (s step.to) (odd (position f step.left)) (odd (position step.to step.taken)) p in
     walked fs s o step.to g steps w.1 ∙ ap (λ c. times c (turning step.to steps)) q ∙ assoc (s f) (turn f step) (turning step.to steps)
 
 never : (a : Bool) → a ≡ times a true → ⊥
@@ -96,7 +96,7 @@ is_back fs f s i = record {
 }
 
 pub turn_back : (f : List ℕ) (s : Step) → turn s.to (step_back f s) ≡ turn f s
-turn_back f s = ap not (times_swap (odd (place s.to s.taken)) (odd (place f s.left)))
+turn_back f s = ap not (times_swap (odd (position s.to s.taken)) (odd (position f s.left)))
 
 walk_on : (fs : List (List ℕ)) (f g h : List ℕ) (ss ts : List Step) → Walk fs f ss g → Walk fs g ts h → Walk fs f (ss ++ ts) h
 walk_on fs f g h [] ts p q = let P : List ℕ → Type 0 = λ m. Walk fs m ts h in subst P (sym p) q
@@ -195,5 +195,5 @@ clash_made reached there back us vs chain facets t p q e d =
     odd_one false true = refl
     odd_one false false = refl
 
-pub same_place : (reached : List Reached) (place : ℕ) (d : Reached) → place < length reached → get_or reached place d ≡ at reached place
-same_place reached place d l = get_or_default reached place d (record { facet = []; turned = false; from = 0 }) l
+pub same_place : (reached : List Reached) (position : ℕ) (d : Reached) → position < length reached → get_or reached position d ≡ at reached position
+same_place reached position d l = get_or_default reached position d (record { facet = []; turned = false; from = 0 }) l

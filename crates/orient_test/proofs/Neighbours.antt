@@ -9,15 +9,15 @@ use Rattle.std.specs.declared.cmp.Ordering.TheVariants.{Less}
 use Rattle.std.proofs.lemmas.Cmp.{tied_itself}
 use Rattle.std.proofs.lemmas.List.Kept.{IsStrictlySortedBy-filter}
 use Rattle.complex_core.specs.Labels.{has, holds, with, without, face_cmp}
-use Rattle.complex_core.specs.Spaces.{Space, IsComplex, over, is_facet}
+use Rattle.complex_core.specs.Complexes.{ComplexView, IsComplex, over, is_facet}
 use Rattle.complex_core.proofs.Sets.{above_head}
 use Rattle.complex_core.proofs.Laws.{has-with, same_sets_is, same_set_itself, listed-filter, nat_eq_is, nat_eq_same, or_left, or_right}
 use Rattle.pseudo_test.specs.Ridges.{IsRidge, count}
-use Rattle.pseudo_test.specs.Sides.{side_cmp, sides_of, sides, facet_of, run_of}
+use Rattle.pseudo_test.specs.Incidences.{incidence_cmp, incidences_of, incidences, facet_of, run_of}
 use Rattle.pseudo_test.proofs.Subsets.{it_is, holds_without}
-use Rattle.pseudo_test.proofs.Sided.{run_is, set, dropped, lacks, rising_sides}
+use Rattle.pseudo_test.proofs.Incident.{run_is, set, dropped, lacks, rising_incidences}
 use Rattle.pseudo_test.proofs.Spreading.{with_can}
-use Rattle.orient_test.specs.Signs.{odd, times, place}
+use Rattle.orient_test.specs.Signs.{odd, times, position}
 use Rattle.orient_test.specs.Walks.{Step, IsStep, turn}
 use Rattle.orient_test.specs.Spreads.{IsNeighbour, NoNeighbour}
 use Rattle.complex_core.proofs.SubsetLists.{two, clash}
@@ -46,7 +46,7 @@ one_of p q h t n = elim (two (pointwise nat_eq p h)) [
 label_is : (f : List ℕ) (x y : ℕ) → IsStrictlySortedBy nat_cmp f → has f x ≡ true → has f y ≡ true → without f x ≡ without f y → x ≡ y
 label_is f x y s t u e = it_is f y x t (ap (λ m. has m x) (sym e) ∙ without_gone f x)
 
-module _ (k : Space) (c : IsComplex k) (f : List ℕ) (x : ℕ) (t : is_facet k.facets f ≡ true) (u : has f x ≡ true) where
+module _ (k : ComplexView) (c : IsComplex k) (f : List ℕ) (x : ℕ) (t : is_facet k.facets f ≡ true) (u : has f x ≡ true) where
   abbrev ridge : List ℕ
   ridge = without f x
 
@@ -54,7 +54,7 @@ module _ (k : Space) (c : IsComplex k) (f : List ℕ) (x : ℕ) (t : is_facet k.
   ridge_is = record { facet = f; label = x; there = t; used = u; is = refl }
 
   -- no ridge of two facets
-  pub none_met : (run : List (List ℕ × ℕ)) (ss : List (List ℕ × ℕ)) → ss ≡ sides k.facets → run ≡ run_of ss (without f x) → (length run ≢ 2) → NoNeighbour k.facets f x
+  pub none_met : (run : List (List ℕ × ℕ)) (ss : List (List ℕ × ℕ)) → ss ≡ incidences k.facets → run ≡ run_of ss (without f x) → (length run ≢ 2) → NoNeighbour k.facets f x
   none_met run ss es er n s i e = n (length_facets run ∙ ap length (ap (map facet_of) (er ∙ ap (λ v. run_of v (without f x)) es) ∙ run_is k c (without f x) ridge_is) ∙ ap (λ v. count k.facets (without f v)) (sym e) ∙ i.two)
     where
       length_facets : (us : List (List ℕ × ℕ)) → length us ≡ length (map facet_of us)
@@ -80,7 +80,7 @@ module _ (k : Space) (c : IsComplex k) (f : List ℕ) (x : ℕ) (t : is_facet k.
     only = λ s i l.
         let to : s.to ≡ g = find s.to (ap (λ fs. is_facet fs s.to) (sym e) ∙ ap (λ v. is_facet (over k.facets (without f v)) s.to) (sym l) ∙ stepped k.facets f s i) i.other in
         let taken : s.taken ≡ y = label_is g s.taken y (set k c g facet_g) (ap (λ m. has m s.taken) (sym to) ∙ i.taken_used) used (ap (λ m. without m s.taken) (sym to) ∙ sym i.shared ∙ ap (without f) l ∙ same_ridge) in
-        (to, (λ j. not (times (odd (place f (l j))) (odd (place (to j) (taken j))))) ∙ turned);
+        (to, (λ j. not (times (odd (position f (l j))) (odd (position (to j) (taken j))))) ∙ turned);
   }
     where
       over_g : is_facet (p ∷ q ∷ []) g ≡ true
@@ -133,8 +133,8 @@ module _ (k : Space) (c : IsComplex k) (f : List ℕ) (x : ℕ) (t : is_facet k.
               in_rest : (z : ℕ) → nat_eq y z ≡ false → (nat_eq y z || has (without f x) z) ≡ true → has (without f x) z ≡ true
               in_rest z a b = sym (ap (λ v. v || has (without f x) z) a) ∙ b
 
-  -- from a run of two sides
-  pub one_met : (run ss : List (List ℕ × ℕ)) (taken : ℕ) (g : List ℕ) (turns : Bool) → ss ≡ sides k.facets → run ≡ run_of ss (without f x) → length run ≡ 2 → taken ≡ (if nat_eq (get_or run 0 ([], 0)).1 x then (get_or run 1 ([], 0)).1 else (get_or run 0 ([], 0)).1) → g ≡ with (without f x) taken → turn f (record { to = g; left = x; taken = taken }) ≡ turns → IsNeighbour k.facets f x g turns
+  -- from a run of two incidences
+  pub one_met : (run ss : List (List ℕ × ℕ)) (taken : ℕ) (g : List ℕ) (turns : Bool) → ss ≡ incidences k.facets → run ≡ run_of ss (without f x) → length run ≡ 2 → taken ≡ (if nat_eq (get_or run 0 ([], 0)).1 x then (get_or run 1 ([], 0)).1 else (get_or run 0 ([], 0)).1) → g ≡ with (without f x) taken → turn f (record { to = g; left = x; taken = taken }) ≡ turns → IsNeighbour k.facets f x g turns
   one_met run ss taken g turns es er n et eg turned = go run (ap (map facet_of) (er ∙ ap (λ v. run_of v (without f x)) es) ∙ run_is k c (without f x) ridge_is) ones n et
     where
       same : (us : List (List ℕ × ℕ)) → AllByRecursion (λ s. has s.0 s.1 ≡ false) us → AllByRecursion (λ s. (s.0 ≡ without f x) × (has s.0 s.1 ≡ false)) (run_of us (without f x))
@@ -145,9 +145,9 @@ module _ (k : Space) (c : IsComplex k) (f : List ℕ) (x : ℕ) (t : is_facet k.
       ] refl
 
       ones : AllByRecursion (λ s. (s.0 ≡ without f x) × (has s.0 s.1 ≡ false)) run
-      ones = let P : List (List ℕ × ℕ) → Type 0 = λ ws. AllByRecursion (λ s. (s.0 ≡ without f x) × (has s.0 s.1 ≡ false)) ws in subst P (sym (er ∙ ap (λ v. run_of v (without f x)) es)) (same (sides k.facets) (lacks k c))
+      ones = let P : List (List ℕ × ℕ) → Type 0 = λ ws. AllByRecursion (λ s. (s.0 ≡ without f x) × (has s.0 s.1 ≡ false)) ws in subst P (sym (er ∙ ap (λ v. run_of v (without f x)) es)) (same (incidences k.facets) (lacks k c))
 
-      -- a side of this ridge with this label is one of f
+      -- an incidence of this ridge with this label is one of f
       own : (s : List ℕ × ℕ) → s.0 ≡ without f x → s.1 ≡ x → facet_of s ≡ f
       own s e h = (λ i. with (e i) (h i)) ∙ with_back f x (set k c f t) u
 
@@ -185,15 +185,15 @@ parity p q = (λ i. nat_eq (mod_two p i) (mod_two q i)) ∙ table (odd p) (odd q
 
 -- ---- what the code finds
 
-module _ (k : Space) (c : IsComplex k) (f : List ℕ) (x : ℕ) (t : is_facet k.facets f ≡ true) (u : has f x ≡ true) where
-  pub found_one : (r : List ℕ) (run ss : List (List ℕ × ℕ)) (taken : ℕ) (g : List ℕ) (p q : ℕ) → r ≡ without f x → ss ≡ sides k.facets → run ≡ run_of ss r → length run ≡ 2 → taken ≡ (if nat_eq (get_or run 0 ([], 0)).1 x then (get_or run 1 ([], 0)).1 else (get_or run 0 ([], 0)).1) → g ≡ with r taken → p ≡ place f x → q ≡ place g taken → IsNeighbour k.facets f x g (nat_eq (p % 2) (q % 2))
+module _ (k : ComplexView) (c : IsComplex k) (f : List ℕ) (x : ℕ) (t : is_facet k.facets f ≡ true) (u : has f x ≡ true) where
+  pub found_one : (r : List ℕ) (run ss : List (List ℕ × ℕ)) (taken : ℕ) (g : List ℕ) (p q : ℕ) → r ≡ without f x → ss ≡ incidences k.facets → run ≡ run_of ss r → length run ≡ 2 → taken ≡ (if nat_eq (get_or run 0 ([], 0)).1 x then (get_or run 1 ([], 0)).1 else (get_or run 0 ([], 0)).1) → g ≡ with r taken → p ≡ position f x → q ≡ position g taken → IsNeighbour k.facets f x g (nat_eq (p % 2) (q % 2))
   found_one r run ss taken g p q er es e n et eg ep eq = one_met k c f x t u run ss taken g (nat_eq (p % 2) (q % 2)) es (e ∙ ap (run_of ss) er) n et (eg ∙ ap (λ m. with m taken) er)
-      (sym (parity (place f x) (place g taken)) ∙ sym (λ i. nat_eq (ep i % 2) (eq i % 2)))
+      (sym (parity (position f x) (position g taken)) ∙ sym (λ i. nat_eq (ep i % 2) (eq i % 2)))
 
-  pub found_none : (r : List ℕ) (run ss : List (List ℕ × ℕ)) (taken : ℕ) → r ≡ without f x → ss ≡ sides k.facets → run ≡ run_of ss r → length run ≡ 2 → taken ≡ (if nat_eq (get_or run 0 ([], 0)).1 x then (get_or run 1 ([], 0)).1 else (get_or run 0 ([], 0)).1) → (0 < taken) × (length (with r taken) ≤ 8)
+  pub found_none : (r : List ℕ) (run ss : List (List ℕ × ℕ)) (taken : ℕ) → r ≡ without f x → ss ≡ incidences k.facets → run ≡ run_of ss r → length run ≡ 2 → taken ≡ (if nat_eq (get_or run 0 ([], 0)).1 x then (get_or run 1 ([], 0)).1 else (get_or run 0 ([], 0)).1) → (0 < taken) × (length (with r taken) ≤ 8)
   found_none r run ss taken er es e n et =
       let m : IsNeighbour k.facets f x (with r taken) (turn f (record { to = with r taken; left = x; taken = taken })) = one_met k c f x t u run ss taken (with r taken) (turn f (record { to = with r taken; left = x; taken = taken })) es (e ∙ ap (run_of ss) er) n et (ap (λ m. with m taken) er) refl in
       with_can (r, taken) (pure_at k.dim k.facets (with r taken) c.pure (ap (is_facet k.facets) (sym m.to) ∙ m.is.to_there)).face
 
-pub sides_rise : (fs : List (List ℕ)) (ss : List (List ℕ × ℕ)) → ss ≡ sides fs → IsStrictlySortedBy side_cmp ss
-sides_rise fs ss e = rising_sides (flat_map sides_of fs) ss e
+pub incidences_rise : (fs : List (List ℕ)) (ss : List (List ℕ × ℕ)) → ss ≡ incidences fs → IsStrictlySortedBy incidence_cmp ss
+incidences_rise fs ss e = rising_incidences (flat_map incidences_of fs) ss e

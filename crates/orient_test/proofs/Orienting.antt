@@ -7,10 +7,10 @@ use Rattle.std.specs.Cmp.Lexicographic.{pointwise, texts_ties}
 use Rattle.std.proofs.lemmas.Bool.{cases_lt}
 use Rattle.std.proofs.lemmas.List.{take_more, get_or_default}
 use Rattle.complex_core.specs.Labels.{face_cmp}
-use Rattle.complex_core.specs.Spaces.{is_facet}
+use Rattle.complex_core.specs.Complexes.{is_facet}
 use Rattle.complex_core.proofs.Laws.{same_sets_is}
 use Rattle.orient_test.specs.declared.search.Reached.{Reached}
-use Rattle.orient_test.specs.Signs.{odd, times, place, induced, IsOrientation, Orientable, sign_of, turned, IsSign, OrientsBy, value, chosen}
+use Rattle.orient_test.specs.Signs.{odd, times, position, induced, IsOrientation, Orientable, sign_of, turned, IsSign, OrientsBy, value, chosen}
 use Rattle.orient_test.specs.Walks.{Step, IsStep, turn}
 use Rattle.orient_test.specs.Spreads.{either, given, IsForced}
 use Rattle.orient_test.proofs.Chains.{step_back, is_back, opposite_sign}
@@ -29,7 +29,7 @@ sign_step rs i r old now next l at_one so_far step f =
     table true o = refl
     table false o = refl
 
--- each sign of the facets before a place was given
+-- each sign of the facets before a position was given
 abbrev pub Covers : List (List ℕ) → (List ℕ → Option Bool) → ℕ → Type 0
 Covers fs signs n = (k : ℕ) → k < n → k < length fs → is_some (signs (get_or fs k [])) ≡ true
 
@@ -91,7 +91,7 @@ module _ (fs : List (List ℕ)) (signs : List ℕ → Option Bool) (n : ℕ) (fo
         let s : Step = record { to = g; left = x; taken = y } in
         let i : IsStep fs f (record { to = g; left = x; taken = y }) = record { from_there = t; to_there = u; left_used = fx; taken_used = gy; other = n; shared = r; two = c } in
         let next : sign g ≡ times (sign f) (turn f (record { to = g; left = x; taken = y })) = ap chosen (forced f (sign f) (record { to = g; left = x; taken = y }) i (has_sign f t)) in
-        opposite_sign (sign f) (sign g) (odd (place f x)) (odd (place g y)) next;
+        opposite_sign (sign f) (sign g) (odd (position f x)) (odd (position g y)) next;
   }
 
   pub is_orientable : Orientable fs
@@ -133,7 +133,7 @@ module _ (fs : List (List ℕ)) (signs : List ℕ → Option Bool) (n : ℕ) (fo
     many = many fs;
     units = units fs;
     adds = λ f g x y t u fx gy n r c.
-        (λ i. turned (along fs f t i) (place f x) +ℤ turned (along fs g u i) (place g y))
-        ∙ (λ i. turned_value (sign f) (odd (place f x)) i +ℤ turned_value (sign g) (odd (place g y)) i)
+        (λ i. turned (along fs f t i) (position f x) +ℤ turned (along fs g u i) (position g y))
+        ∙ (λ i. turned_value (sign f) (odd (position f x)) i +ℤ turned_value (sign g) (odd (position g y)) i)
         ∙ sum_from (induced sign f x) (induced sign g y) (is_orientation.opposite f g x y t u fx gy n r c);
   })

@@ -3,7 +3,7 @@ use Rattle.std.proofs.Common.{◌≡◌, ℕ, ◌+◌, ◌<◌, ◌≤◌, true,
 use Rattle.std.specs.Option.{MatchOption}
 use Rattle.std.proofs.lemmas.Bool.{cases_lt}
 use Rattle.complex_core.specs.Labels.{has}
-use Rattle.complex_core.specs.Spaces.{is_facet}
+use Rattle.complex_core.specs.Complexes.{is_facet}
 use Rattle.pseudo_test.proofs.Spreading.{has_at}
 use Rattle.orient_test.specs.declared.search.Reached.{Reached}
 use Rattle.orient_test.specs.Signs.{times}
@@ -25,7 +25,7 @@ pub record Growing (fs : List (List ℕ)) (start : List ℕ) (rs : List Reached)
   pub begins : given rs start ≡ Some false
   pub done : (k : ℕ) → k < next → k < length rs → (s : Step) → IsStep fs (at rs k).facet s → Forces fs rs k s
 
--- the same within the loop over the labels of the facet at a place
+-- the same within the loop over the labels of the facet at a position
 pub record Inner (fs : List (List ℕ)) (start : List ℕ) (rs : List Reached) (places : List ℕ → Option ℕ) (next : ℕ) (labels : List ℕ) (so_far : ℕ) : Type 0 where
   pub growing : Growing fs start rs places next
   pub inside : next < length rs

@@ -7,7 +7,7 @@ use Rattle.std.specs.Ordering.{is_eq}
 use Rattle.std.specs.Cmp.Lexicographic.{pointwise, texts_ties}
 use Rattle.std.proofs.lemmas.Bool.{cases_lt}
 use Rattle.complex_core.specs.Labels.{face_cmp}
-use Rattle.complex_core.specs.Spaces.{is_facet}
+use Rattle.complex_core.specs.Complexes.{is_facet}
 use Rattle.complex_core.proofs.Laws.{same_sets_is, same_set_itself}
 use Rattle.orient_test.specs.declared.search.Reached.{Reached}
 use Rattle.orient_test.specs.Signs.{times}

@@ -4,7 +4,7 @@ use Rattle.std.specs.List.{AllByRecursion}
 use Rattle.std.specs.Cmp.Lexicographic.{pointwise}
 use lib.IntN.{ℤ, pos, negsuc, ◌+ℤ◌, neg_ℤ}
 use Rattle.complex_core.specs.Labels.{has, without}
-use Rattle.complex_core.specs.Spaces.{is_facet}
+use Rattle.complex_core.specs.Complexes.{is_facet}
 use Rattle.pseudo_test.specs.Ridges.{count}
 
 -- whether a number is odd
@@ -17,13 +17,13 @@ abbrev pub times : Bool → Bool → Bool
 times true c = not c
 times false c = c
 
--- the place of a label, from 0: how many labels are less
-abbrev pub place : List ℕ → ℕ → ℕ
-place f x = length (filter (λ y. nat_lt y x) f)
+-- the position of a label, from 0: how many labels are less
+abbrev pub position : List ℕ → ℕ → ℕ
+position f x = length (filter (λ y. nat_lt y x) f)
 
--- the facet's sign times (-1)^k, where k is the place of the dropped label
+-- the facet's sign times (-1)^k, where k is the position of the dropped label
 abbrev pub induced : (List ℕ → Bool) → List ℕ → ℕ → Bool
-induced signs f x = times (signs f) (odd (place f x))
+induced signs f x = times (signs f) (odd (position f x))
 
 -- at a ridge of two facets, f without x and g without y, the two induced signs are opposite
 pub record IsOrientation (facets : List (List ℕ)) (signs : List ℕ → Bool) : Type 0 where
@@ -54,7 +54,7 @@ IsSign s = (s ≡ pos 1) ⊎ (s ≡ negsuc 0)
 pub record OrientsBy (facets : List (List ℕ)) (signs : List ℤ) : Type 0 where
   pub many : length signs ≡ length facets
   pub units : AllByRecursion IsSign signs
-  pub adds : (f g : List ℕ) (x y : ℕ) → is_facet facets f ≡ true → is_facet facets g ≡ true → has f x ≡ true → has g y ≡ true → (f ≢ g) → without f x ≡ without g y → count facets (without f x) ≡ 2 → turned (sign_of facets signs f) (place f x) +ℤ turned (sign_of facets signs g) (place g y) ≡ pos 0
+  pub adds : (f g : List ℕ) (x y : ℕ) → is_facet facets f ≡ true → is_facet facets g ≡ true → has f x ≡ true → has g y ≡ true → (f ≢ g) → without f x ≡ without g y → count facets (without f x) ≡ 2 → turned (sign_of facets signs f) (position f x) +ℤ turned (sign_of facets signs g) (position g y) ≡ pos 0
 
 -- a sign as a number
 abbrev pub value : Bool → ℤ

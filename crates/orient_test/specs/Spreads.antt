@@ -7,11 +7,11 @@ use Rattle.orient_test.specs.Signs.{times}
 use Rattle.orient_test.specs.declared.search.Spread.{Spread}
 use Rattle.orient_test.specs.declared.search.Spread.TheVariants.{Signed, Clash}
 use Rattle.orient_test.specs.Walks.{Step, IsStep, turn, IsClash}
-use Rattle.complex_core.specs.Spaces.{is_facet}
+use Rattle.complex_core.specs.Complexes.{is_facet}
 
--- the facet at a place, whether its sign is turned, and from which place it was reached
+-- the facet at a position, whether its sign is turned, and from which position it was reached
 abbrev pub at : List Reached → ℕ → Reached
-at reached place = get_or reached place (record { facet = []; turned = false; from = 0 })
+at reached position = get_or reached position (record { facet = []; turned = false; from = 0 })
 
 -- the first of two that is there
 abbrev pub either : Option Bool → Option Bool → Option Bool
@@ -37,23 +37,23 @@ abbrev pub NoNeighbour : List (List ℕ) → List ℕ → ℕ → Type 0
 NoNeighbour facets f label = (s : Step) → IsStep facets f s → s.left ≡ label → ⊥
 
 -- this facet was reached over a ridge from an earlier one, and its sign is the one that this forces
-pub record CameFrom (facets : List (List ℕ)) (reached : List Reached) (place : ℕ) : Type 0 where
-  pub earlier : (at reached place).from < place
+pub record CameFrom (facets : List (List ℕ)) (reached : List Reached) (position : ℕ) : Type 0 where
+  pub earlier : (at reached position).from < position
   pub step : Step
-  pub is : IsStep facets (at reached place).facet step
-  pub to : step.to ≡ (at reached (at reached place).from).facet
-  pub turned : (at reached place).turned ≡ times (at reached (at reached place).from).turned (turn (at reached place).facet step)
+  pub is : IsStep facets (at reached position).facet step
+  pub to : step.to ≡ (at reached (at reached position).from).facet
+  pub turned : (at reached position).turned ≡ times (at reached (at reached position).from).turned (turn (at reached position).facet step)
 
 -- the first facet's sign isn't turned, and each other one came from an earlier one
 pub record IsTree (facets : List (List ℕ)) (reached : List Reached) : Type 0 where
   pub some : 0 < length reached
   pub begins : is_facet facets (at reached 0).facet ≡ true
   pub plain : (at reached 0).turned ≡ false
-  pub came : (place : ℕ) → 0 < place → place < length reached → CameFrom facets reached place
+  pub came : (position : ℕ) → 0 < position → position < length reached → CameFrom facets reached position
 
 -- each facet but the first came from an earlier one
 abbrev pub ComeEarlier : List Reached → Type 0
-ComeEarlier reached = (place : ℕ) → 0 < place → place < length reached → (at reached place).from < place
+ComeEarlier reached = (position : ℕ) → 0 < position → position < length reached → (at reached position).from < position
 
 -- a step leads from one facet to another whose sign isn't the forced one
 pub record Contradicts (facets : List (List ℕ)) (reached : List Reached) (there back : ℕ) : Type 0 where
@@ -68,7 +68,7 @@ IsForced facets signs = (f : List ℕ) (c : Bool) (s : Step) → IsStep facets f
 
 -- where each facet stands that was reached
 pub record IsPlaced (reached : List Reached) (places : List ℕ → Option ℕ) : Type 0 where
-  pub there : (f : List ℕ) (place : ℕ) → places f ≡ Some place → (place < length reached) × ((at reached place).facet ≡ f) × (given reached f ≡ Some (at reached place).turned)
+  pub there : (f : List ℕ) (position : ℕ) → places f ≡ Some position → (position < length reached) × ((at reached position).facet ≡ f) × (given reached f ≡ Some (at reached position).turned)
   pub absent : (f : List ℕ) → places f ≡ None → given reached f ≡ None
 
 -- no more are reached than there are facets

@@ -1,9 +1,9 @@
 -- Walks over ridges of two facets, and how signs turn along them.
 use Rattle.std.specs.Prelude.{◌≡◌, ◌≢◌, true, false, ℕ, Bool, not, List, [], ◌∷◌, map}
 use Rattle.complex_core.specs.Labels.{has, without}
-use Rattle.complex_core.specs.Spaces.{is_facet}
+use Rattle.complex_core.specs.Complexes.{is_facet}
 use Rattle.pseudo_test.specs.Ridges.{count}
-use Rattle.orient_test.specs.Signs.{odd, times, place}
+use Rattle.orient_test.specs.Signs.{odd, times, position}
 
 -- over a ridge of two facets from one to the other, by the labels that they drop there
 pub record Step : Type 0 where
@@ -28,7 +28,7 @@ Walk facets f (step ∷ steps) g = IsStep facets f step × Walk facets step.to s
 
 -- whether neighbours have different signs in each orientation: where the two places are both even or both odd
 abbrev pub turn : List ℕ → Step → Bool
-turn f step = not (times (odd (place f step.left)) (odd (place step.to step.taken)))
+turn f step = not (times (odd (position f step.left)) (odd (position step.to step.taken)))
 
 -- whether the forced sign turns along a walk
 abbrev pub turning : List ℕ → List Step → Bool

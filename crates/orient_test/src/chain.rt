@@ -7,7 +7,7 @@ use crate::search::Reached;
 use complex_core::Face;
 use std::alloc::{AllocError, Global};
 
-// From the first facet to the one at the first place, over to the one at the second place, and
+// From the first facet to the one at the first position, over to the one at the second position, and
 // back.
 pub(crate) fn closed_chain(
     alloc: Global,
@@ -27,17 +27,17 @@ pub(crate) fn closed_chain(
     Ok(chain)
 }
 
-// From the facet at a place to the first one.
-fn path(alloc: Global, reached: &[Reached], place: usize) -> Result<Vec<Face>, AllocError>
+// From the facet at a position to the first one.
+fn path(alloc: Global, reached: &[Reached], position: usize) -> Result<Vec<Face>, AllocError>
     requires earlier { ComeEarlier reached.now }
-    requires inside { place < length reached.now }
-    ensures { IfOk result (λ v. (facets : List (List ℕ)) → IsTree facets reached.now → IsChain facets (at reached.now place).facet (at reached.now 0).facet (at reached.now place).turned v.items) }
+    requires inside { position < length reached.now }
+    ensures { IfOk result (λ v. (facets : List (List ℕ)) → IsTree facets reached.now → IsChain facets (at reached.now position).facet (at reached.now 0).facet (at reached.now position).turned v.items) }
 {
     let mut path = Vec::new(alloc);
-    let mut place = place;
-    while place != 0 {
-        path.push(reached[place].facet)?;
-        place = reached[place].from;
+    let mut position = position;
+    while position != 0 {
+        path.push(reached[position].facet)?;
+        position = reached[position].from;
     }
     path.push(reached[0].facet)?;
     Ok(path)

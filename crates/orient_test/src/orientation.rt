@@ -8,7 +8,7 @@ ghost use Rattle.orient_test.specs.Answers.{IsShown, Decides};
 
 use crate::search::{Reached, Spread, signs_from};
 use complex_core::{Complex, Face};
-use pseudo_test::all_sides;
+use pseudo_test::all_incidences;
 use std::alloc::{AllocError, Global};
 use std::collections::BTreeMap;
 
@@ -30,13 +30,13 @@ pub fn orient(alloc: Global, complex: &Complex) -> Result<Orientation, AllocErro
     ensures shown { IfOk result (IsShown complex.now.facets) }
     ensures decides { IfOk result (Decides complex.now.facets) }
 {
-    let sides = all_sides(alloc, complex)?;
+    let incidences = all_incidences(alloc, complex)?;
     let mut signs = BTreeMap::new(alloc);
     for facet in complex.facets() {
         if signs.contains_key(facet) {
             continue;
         }
-        match signs_from(alloc, complex, &sides, *facet)? {
+        match signs_from(alloc, complex, &incidences, *facet)? {
             Spread::Signed(reached) => sign_all(&mut signs, &reached)?,
             Spread::Clash(chain) => return Ok(Orientation::Clash(chain)),
         }

@@ -2,9 +2,9 @@
 ghost use Rattle.std.specs.Prelude.{◌≡◌, ◌<◌, ◌==◌, [], ◌∷◌, false, IfOk, OnOk, length, MatchOption, IsTrue, true, if◌then◌else◌, slice_index_or};
 ghost use Rattle.std.specs.BTreeMap.{get};
 ghost use Rattle.complex_core.specs.Labels.{has, face_cmp};
-ghost use Rattle.complex_core.specs.Spaces.{is_facet};
-ghost use Rattle.pseudo_test.specs.Sides.{sides as sides_in};
-ghost use Rattle.orient_test.specs.Signs.{place};
+ghost use Rattle.complex_core.specs.Complexes.{is_facet};
+ghost use Rattle.pseudo_test.specs.Incidences.{incidences as incidences_in};
+ghost use Rattle.orient_test.specs.Signs.{position};
 ghost use Rattle.orient_test.specs.Spreads.{at, IsNeighbour, NoNeighbour, IsTree, IsPlaced, IsCrossed, Contradicts, IsSpread};
 
 use crate::chain::closed_chain;
@@ -14,7 +14,7 @@ use std::alloc::{AllocError, Global};
 use std::collections::BTreeMap;
 
 /// A facet that was reached: whether its sign is another one than that of the first facet, and
-/// the place of the facet from which it was reached.
+/// the position of the facet from which it was reached.
 #[derive(Clone, Copy)]
 pub struct Reached {
     pub facet: Face,
@@ -40,10 +40,10 @@ pub enum Spread {
 pub(crate) fn signs_from(
     alloc: Global,
     complex: &Complex,
-    sides: &[(Face, u16)],
+    incidences: &[(Face, u16)],
     start: Face,
 ) -> Result<Spread, AllocError>
-    requires sides { sides.now ≡ sides_in complex.now.facets }
+    requires incidences { incidences.now ≡ incidences_in complex.now.facets }
     requires start { is_facet complex.now.facets start ≡ true }
     ensures { IfOk result (IsSpread complex.now.facets start) }
 {
@@ -54,9 +54,9 @@ pub(crate) fn signs_from(
     while next < reached.len() {
         let facet = reached[next].facet;
         for label in facet.labels().as_slice() {
-            match cross(complex, sides, *label, next, &mut places, &mut reached)? {
-                Some(place) => {
-                    return Ok(Spread::Clash(closed_chain(alloc, &reached, next, place)?));
+            match cross(complex, incidences, *label, next, &mut places, &mut reached)? {
+                Some(position) => {
+                    return Ok(Spread::Clash(closed_chain(alloc, &reached, next, position)?));
                 }
                 None => {}
             }
@@ -87,35 +87,35 @@ fn begin(
 }
 
 // Steps over the ridge without a label, and gives the facet behind it the forced sign. If that
-// one has the other sign already, says its place.
+// one has the other sign already, says its position.
 fn cross(
     complex: &Complex,
-    sides: &[(Face, u16)],
+    incidences: &[(Face, u16)],
     label: u16,
     next: usize,
     places: &mut BTreeMap<Face, usize>,
     reached: &mut Vec<Reached>,
 ) -> Result<Option<usize>, AllocError>
-    requires sides { sides.now ≡ sides_in complex.now.facets }
+    requires incidences { incidences.now ≡ incidences_in complex.now.facets }
     requires next { next < length reached.old.items }
     requires label { has (at reached.old.items next).facet label ≡ true }
     requires tree { IsTree complex.now.facets reached.old.items }
     requires placed { IsPlaced reached.old.items (get face_cmp places.old) }
     ensures placed { OnOk result (IsPlaced reached.new.items (get face_cmp places.new)) }
     ensures crossed { IfOk result (λ r. MatchOption r (IsCrossed complex.now.facets reached.old.items reached.new.items next label)
-        (λ place. (place < length reached.old.items) × (reached.new.items ≡ reached.old.items) × Contradicts complex.now.facets reached.old.items next place)) }
+        (λ position. (position < length reached.old.items) × (reached.new.items ≡ reached.old.items) × Contradicts complex.now.facets reached.old.items next position)) }
 {
     let Reached { facet, turned, .. } = reached[next];
-    let Some(other) = neighbour(complex, sides, &facet, label) else {
+    let Some(other) = neighbour(complex, incidences, &facet, label) else {
         return Ok(None);
     };
     let forced = turned != other.turns;
     match places.get(&other.facet).copied() {
-        Some(place) => {
-            if reached[place].turned == forced {
+        Some(position) => {
+            if reached[position].turned == forced {
                 return Ok(None);
             }
-            Ok(Some(place))
+            Ok(Some(position))
         }
         None => {
             places.insert(other.facet, reached.len())?;
@@ -131,8 +131,8 @@ fn cross(
 
 // The other facet over the ridge without a label, where that lies in two facets, and whether
 // the sign turns there.
-fn neighbour(complex: &Complex, sides: &[(Face, u16)], facet: &Face, label: u16) -> Option<Behind>
-    requires sides { sides.now ≡ sides_in complex.now.facets }
+fn neighbour(complex: &Complex, incidences: &[(Face, u16)], facet: &Face, label: u16) -> Option<Behind>
+    requires incidences { incidences.now ≡ incidences_in complex.now.facets }
     requires facet { is_facet complex.now.facets facet.now ≡ true }
     requires label { has facet.now label ≡ true }
     ensures { MatchOption result (NoNeighbour complex.now.facets facet.now label) (λ n. IsNeighbour complex.now.facets facet.now label n.facet n.turns) }
@@ -140,7 +140,7 @@ fn neighbour(complex: &Complex, sides: &[(Face, u16)], facet: &Face, label: u16)
     // Facets are rising lists of labels: `facets` says so.
     let _ = complex.facets();
     let ridge = facet.without(label);
-    let run = over(sides, &ridge);
+    let run = over(incidences, &ridge);
     if run.len() != 2 {
         return None;
     }
@@ -157,7 +157,7 @@ fn neighbour(complex: &Complex, sides: &[(Face, u16)], facet: &Face, label: u16)
     }
 }
 
-// The label of the first of two sides that doesn't have this one.
+// The label of the first of two incidences that doesn't have this one.
 fn other_label(run: &[(Face, u16)], label: u16) -> u16
     requires { length run.now ≡ 2 }
     ensures { result ≡ (if (slice_index_or run.now 0 ([], 0)).1 == label then (slice_index_or run.now 1 ([], 0)).1 else (slice_index_or run.now 0 ([], 0)).1) }
@@ -169,9 +169,9 @@ fn other_label(run: &[(Face, u16)], label: u16) -> u16
     }
 }
 
-// The place of a label: how many labels are less.
+// The position of a label: how many labels are less.
 fn place_of(face: &Face, label: u16) -> usize
-    ensures { result ≡ place face.now label }
+    ensures { result ≡ position face.now label }
 {
     let labels = face.labels();
     labels.iter().filter(|other| **other < label).count()

@@ -1,4 +1,4 @@
 pub mod Subsets
-pub mod Sided
+pub mod Incident
 pub mod Counted
 pub mod Spreading

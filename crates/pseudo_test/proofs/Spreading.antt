@@ -13,15 +13,15 @@ use Rattle.std.proofs.lemmas.List.{take_more, get_or_default}
 use Rattle.complex_core.proofs.Runs.{sorted_run}
 use Rattle.complex_core.proofs.Faces.{less_cmp}
 use Rattle.complex_core.specs.Labels.{has, holds, with, without, face_cmp, IsFace}
-use Rattle.complex_core.specs.Spaces.{Space, IsComplex, IsFacet, over, is_facet}
+use Rattle.complex_core.specs.Complexes.{ComplexView, IsComplex, IsFacet, over, is_facet}
 use Rattle.complex_core.proofs.Sets.{Above, among, sorted_drop, above_head, above_tail, above_lower, not_among}
 use Rattle.complex_core.proofs.Laws.{has-with, nat_eq_is, nat_eq_same, or_left, or_right, same_sets_is, same_set_itself, listed-append, listed-filter, listed-among}
 use Rattle.pseudo_test.specs.Ridges.{IsRidge}
-use Rattle.pseudo_test.specs.Chains.{Near, Linked, Joined, Strong, IsLeast, IsApart}
+use Rattle.pseudo_test.specs.Chains.{Near, Linked, Joined, StronglyConnected, IsLeast, IsApart}
 use Rattle.pseudo_test.specs.Spreads.{Moved, over_new}
 use Rattle.pseudo_test.proofs.Subsets.{holds_without}
-use Rattle.pseudo_test.proofs.Sided.{dropped, tail_rest, run_is}
-use Rattle.pseudo_test.specs.Sides.{sides, facet_of, run_of}
+use Rattle.pseudo_test.proofs.Incident.{dropped, tail_rest, run_is}
+use Rattle.pseudo_test.specs.Incidences.{incidences, facet_of, run_of}
 use Rattle.complex_core.proofs.SubsetLists.{two, clash}
 use Rattle.complex_core.proofs.Booleans.{and_false}
 use Rattle.complex_core.proofs.Members.{place_of_label}
@@ -70,7 +70,7 @@ pub record Spread (fs : List (List ℕ)) (first : List ℕ) (reached left : List
   pub clear : (r g : List ℕ) → seen r ≡ true → is_facet left g ≡ true → holds g r ≡ false
   pub total : length reached + length left ≡ length fs
 
--- the ridges of the facets before a place were seen
+-- the ridges of the facets before a position were seen
 abbrev pub Done : List (List ℕ) → (List ℕ → Bool) → ℕ → Type 0
 Done reached seen next = (k : ℕ) (x : ℕ) → k < next → has (get_or reached k []) x ≡ true → seen (without (get_or reached k []) x) ≡ true
 
@@ -88,7 +88,7 @@ either true b t f g = f refl
 either false b t f g = g t
 
 -- the facets over one more ridge of a facet that was reached
-pub spread_over : (k : Space) (first f : List ℕ) (x : ℕ) (run reached left now_reached now_left : List (List ℕ)) (seen now_seen : List ℕ → Bool) → IsComplex k → Spread k.facets first reached left seen → is_facet reached f ≡ true → has f x ≡ true → run ≡ over k.facets (without f x) → Moved (over_new (seen (without f x)) run) reached left now_reached now_left → ((r : List ℕ) → now_seen r ≡ (seen r || pointwise nat_eq (without f x) r)) → Spread k.facets first now_reached now_left now_seen
+pub spread_over : (k : ComplexView) (first f : List ℕ) (x : ℕ) (run reached left now_reached now_left : List (List ℕ)) (seen now_seen : List ℕ → Bool) → IsComplex k → Spread k.facets first reached left seen → is_facet reached f ≡ true → has f x ≡ true → run ≡ over k.facets (without f x) → Moved (over_new (seen (without f x)) run) reached left now_reached now_left → ((r : List ℕ) → now_seen r ≡ (seen r || pointwise nat_eq (without f x) r)) → Spread k.facets first now_reached now_left now_seen
 spread_over k first f x run reached left now_reached now_left seen now_seen c s t u er m n = record {
   begins = now first ∙ or_left (is_facet reached first) (is_facet left first && new first) s.begins;
   joined = λ g v. either (is_facet reached g) (is_facet left g && new g) (sym (now g) ∙ v) (s.joined g) (λ w.
@@ -137,7 +137,7 @@ get_front (x ∷ xs) ys zero d h = refl
 get_front (x ∷ xs) ys (suc i) d h = get_front xs ys i d (omega arith)
 
 -- at the end what was reached is closed under sharing a ridge
-pub not_reached : (k : Space) (first : List ℕ) (reached left : List (List ℕ)) (seen : List ℕ → Bool) (next : ℕ) → IsComplex k → Spread k.facets first reached left seen → Done reached seen next → length reached ≤ next → (g : List ℕ) → is_facet left g ≡ true → Joined k.facets first g → ⊥
+pub not_reached : (k : ComplexView) (first : List ℕ) (reached left : List (List ℕ)) (seen : List ℕ → Bool) (next : ℕ) → IsComplex k → Spread k.facets first reached left seen → Done reached seen next → length reached ≤ next → (g : List ℕ) → is_facet left g ≡ true → Joined k.facets first g → ⊥
 not_reached k first reached left seen next c s d l g t = apart_law k.facets (is_facet reached)
     (λ f h p q n. elim (two (is_facet reached h)) [
       | inl r ↦ r
@@ -156,7 +156,7 @@ not_reached k first reached left seen next c s d l g t = apart_law k.facets (is_
       | inr e ↦ let p : (j : ℕ) × (j < length xs) × (get_or xs j [] ≡ r) = place_of xs r (sym (ap (λ b. b || is_facet xs r) e) ∙ t) in (suc p.0, omega (arith, p.1), p.2)
     ]
 
-pub strong_end : (k : Space) (first : List ℕ) (reached : List (List ℕ)) (seen : List ℕ → Bool) → Spread k.facets first reached [] seen → Strong k.facets
+pub strong_end : (k : ComplexView) (first : List ℕ) (reached : List (List ℕ)) (seen : List ℕ → Bool) → Spread k.facets first reached [] seen → StronglyConnected k.facets
 strong_end k first reached seen s = record {
   joined = λ f g t u.
       let p : Joined k.facets first f = s.joined f (all_in f t) in
@@ -171,7 +171,7 @@ strong_end k first reached seen s = record {
     all_in : (f : List ℕ) → is_facet k.facets f ≡ true → is_facet reached f ≡ true
     all_in f t = drop_none (is_facet reached f) (sym (s.all f) ∙ t)
 
-pub apart_end : (k : Space) (first other : List ℕ) (reached left : List (List ℕ)) (seen : List ℕ → Bool) (next : ℕ) → IsComplex k → IsLeast k.facets first → Spread k.facets first reached left seen → Done reached seen next → length reached ≤ next → is_facet left other ≡ true → ((g : List ℕ) → is_facet left g ≡ true → face_cmp g other ≡ Less → ⊥) → IsApart k.facets first other
+pub apart_end : (k : ComplexView) (first other : List ℕ) (reached left : List (List ℕ)) (seen : List ℕ → Bool) (next : ℕ) → IsComplex k → IsLeast k.facets first → Spread k.facets first reached left seen → Done reached seen next → length reached ≤ next → is_facet left other ≡ true → ((g : List ℕ) → is_facet left g ≡ true → face_cmp g other ≡ Less → ⊥) → IsApart k.facets first other
 apart_end k first other reached left seen next c b s d l t below = record {
   begins = b;
   there = s.all other ∙ or_right (is_facet reached other) (is_facet left other) t;
@@ -180,7 +180,7 @@ apart_end k first other reached left seen next c b s d l t below = record {
 }
 
 -- the first of a rising list is the least
-pub least_first : (k : Space) (fs : List (List ℕ)) (first : List ℕ) → IsComplex k → fs ≡ k.facets → first ≡ get_or fs 0 first → IsLeast k.facets first
+pub least_first : (k : ComplexView) (fs : List (List ℕ)) (first : List ℕ) → IsComplex k → fs ≡ k.facets → first ≡ get_or fs 0 first → IsLeast k.facets first
 least_first k fs first c e at = let P : List (List ℕ) → Type 0 = λ gs. IsLeast gs first in let Q : List (List ℕ) → Type 0 = λ gs. IsStrictlySortedBy face_cmp gs in let R : List (List ℕ) → Type 0 = λ gs. 0 < length gs in subst P e (go fs (subst R (sym e) c.some) (subst Q (sym e) c.rising) at)
   where
     go : (gs : List (List ℕ)) → 0 < length gs → IsStrictlySortedBy face_cmp gs → first ≡ get_or gs 0 first → IsLeast gs first
@@ -193,7 +193,7 @@ least_first k fs first c e at = let P : List (List ℕ) → Type 0 = λ gs. IsLe
     })
 
 -- at the start the first facet is reached, and no ridge was seen
-pub spread_start : (k : Space) (fs reached left : List (List ℕ)) (first : List ℕ) (seen : List ℕ → Bool) → IsComplex k → fs ≡ k.facets → first ≡ get_or fs 0 first → reached ≡ take 1 fs → left ≡ take (length fs - 1) (drop 1 fs) → ((r : List ℕ) → seen r ≡ false) → Spread k.facets first reached left seen
+pub spread_start : (k : ComplexView) (fs reached left : List (List ℕ)) (first : List ℕ) (seen : List ℕ → Bool) → IsComplex k → fs ≡ k.facets → first ≡ get_or fs 0 first → reached ≡ take 1 fs → left ≡ take (length fs - 1) (drop 1 fs) → ((r : List ℕ) → seen r ≡ false) → Spread k.facets first reached left seen
 spread_start k fs reached left first seen c e at er el none = let P : List (List ℕ) → Type 0 = λ gs. Spread gs first reached left seen in let Q : List (List ℕ) → Type 0 = λ gs. IsStrictlySortedBy face_cmp gs in let R : List (List ℕ) → Type 0 = λ gs. 0 < length gs in subst P e (go fs (subst R (sym e) c.some) (subst Q (sym e) c.rising) at er el)
   where
     or_none : (b : Bool) → (b || false) ≡ b
@@ -366,9 +366,9 @@ pub moved_old : (old : Bool) (run : List (List ℕ)) (reached left now_left : Li
 moved_old old run reached left now_left e n = let P : Bool → Type 0 = λ b. Moved (over_new b run) reached left reached now_left in let Q : List (List ℕ) → Type 0 = λ us. Moved [] reached left reached us in subst P (sym e) (subst Q (sym n) (moved_none reached left))
 
 -- the facets over a ridge are faces
-pub faces_over : (k : Space) (sides_now : List (List ℕ × ℕ)) (f : List ℕ) (x : ℕ) → IsComplex k → sides_now ≡ sides k.facets → is_facet k.facets f ≡ true → has f x ≡ true → (map facet_of (run_of sides_now (without f x)) ≡ over k.facets (without f x)) × AllByRecursion IsFace (map facet_of (run_of sides_now (without f x)))
-faces_over k sides_now f x c e t u =
-    let same : map facet_of (run_of sides_now (without f x)) ≡ over k.facets (without f x) = ap (λ ss. map facet_of (run_of ss (without f x))) e ∙ run_is k c (without f x) (record { facet = f; label = x; there = t; used = u; is = refl }) in
+pub faces_over : (k : ComplexView) (incidences_now : List (List ℕ × ℕ)) (f : List ℕ) (x : ℕ) → IsComplex k → incidences_now ≡ incidences k.facets → is_facet k.facets f ≡ true → has f x ≡ true → (map facet_of (run_of incidences_now (without f x)) ≡ over k.facets (without f x)) × AllByRecursion IsFace (map facet_of (run_of incidences_now (without f x)))
+faces_over k incidences_now f x c e t u =
+    let same : map facet_of (run_of incidences_now (without f x)) ≡ over k.facets (without f x) = ap (λ ss. map facet_of (run_of ss (without f x))) e ∙ run_is k c (without f x) (record { facet = f; label = x; there = t; used = u; is = refl }) in
     let P : List (List ℕ) → Type 0 = λ fs. AllByRecursion IsFace fs in
     (same, subst P (sym same) (kept k.facets c.pure))
   where
@@ -389,15 +389,15 @@ listed_at [] i d h = absurd (omega (arith, h))
 listed_at (x ∷ xs) zero d h = or_left (pointwise nat_eq x x) (is_facet xs x) (same_set_itself x)
 listed_at (x ∷ xs) (suc i) d h = or_right (pointwise nat_eq x (get_or xs i d)) (is_facet xs (get_or xs i d)) (listed_at xs i d (omega arith))
 
--- the state within the loop over the labels of the facet at a place
-pub record Within (k : Space) (first : List ℕ) (reached left : List (List ℕ)) (seen : List ℕ → Bool) (next : ℕ) (labels : List ℕ) (so_far : ℕ) : Type 0 where
+-- the state within the loop over the labels of the facet at a position
+pub record Within (k : ComplexView) (first : List ℕ) (reached left : List (List ℕ)) (seen : List ℕ → Bool) (next : ℕ) (labels : List ℕ) (so_far : ℕ) : Type 0 where
   pub spread : Spread k.facets first reached left seen
   pub done : Done reached seen next
   pub inside : next < length reached
   pub is : labels ≡ get_or reached next []
   pub before : (j : ℕ) → j < so_far → seen (without labels (get_or labels j 0)) ≡ true
 
-pub within_start : (k : Space) (first facet labels : List ℕ) (reached left : List (List ℕ)) (seen : List ℕ → Bool) (next : ℕ) → Spread k.facets first reached left seen → Done reached seen next → next < length reached → facet ≡ get_or reached next facet → labels ≡ facet → Within k first reached left seen next labels 0
+pub within_start : (k : ComplexView) (first facet labels : List ℕ) (reached left : List (List ℕ)) (seen : List ℕ → Bool) (next : ℕ) → Spread k.facets first reached left seen → Done reached seen next → next < length reached → facet ≡ get_or reached next facet → labels ≡ facet → Within k first reached left seen next labels 0
 within_start k first facet labels reached left seen next s d l at e = record {
   spread = s;
   done = d;
@@ -407,17 +407,17 @@ within_start k first facet labels reached left seen next s d l at e = record {
 }
 
 -- the facet whose ridges are looked at
-pub within_facet : (k : Space) (first : List ℕ) (reached left : List (List ℕ)) (seen : List ℕ → Bool) (next : ℕ) (labels : List ℕ) (i : ℕ) → Within k first reached left seen next labels i → is_facet reached labels ≡ true
+pub within_facet : (k : ComplexView) (first : List ℕ) (reached left : List (List ℕ)) (seen : List ℕ → Bool) (next : ℕ) (labels : List ℕ) (i : ℕ) → Within k first reached left seen next labels i → is_facet reached labels ≡ true
 within_facet k first reached left seen next labels i w = ap (is_facet reached) w.is ∙ listed_at reached next [] w.inside
 
-pub within_faces : (k : Space) (first : List ℕ) (reached left : List (List ℕ)) (seen : List ℕ → Bool) (next : ℕ) (facet labels ridge : List ℕ) (i x : ℕ) (items shown : List (List ℕ × ℕ)) → IsComplex k → Within k first reached left seen next labels i → i < length labels → x ≡ get_or labels i x → labels ≡ facet → ridge ≡ without facet x → items ≡ sides k.facets → shown ≡ items → (map facet_of (run_of shown ridge) ≡ over k.facets (without labels x)) × AllByRecursion IsFace (map facet_of (run_of shown ridge))
+pub within_faces : (k : ComplexView) (first : List ℕ) (reached left : List (List ℕ)) (seen : List ℕ → Bool) (next : ℕ) (facet labels ridge : List ℕ) (i x : ℕ) (items shown : List (List ℕ × ℕ)) → IsComplex k → Within k first reached left seen next labels i → i < length labels → x ≡ get_or labels i x → labels ≡ facet → ridge ≡ without facet x → items ≡ incidences k.facets → shown ≡ items → (map facet_of (run_of shown ridge) ≡ over k.facets (without labels x)) × AllByRecursion IsFace (map facet_of (run_of shown ridge))
 within_faces k first reached left seen next facet labels ridge i x items shown c w l at ef er e es =
     let r : without labels x ≡ ridge = ap (λ f. without f x) ef ∙ sym er in
     let p = faces_over k shown labels x c (es ∙ e) (spread_in k.facets first reached left seen w.spread labels (within_facet k first reached left seen next labels i w)) (has_at labels i x l at) in
     let P : List ℕ → Type 0 = λ m. (map facet_of (run_of shown m) ≡ over k.facets (without labels x)) × AllByRecursion IsFace (map facet_of (run_of shown m)) in
     subst P r p
 
-pub within_next : (k : Space) (first : List ℕ) (reached left now_reached now_left : List (List ℕ)) (seen now_seen : List ℕ → Bool) (next : ℕ) (facet labels ridge : List ℕ) (i x : ℕ) (items shown : List (List ℕ × ℕ)) → IsComplex k → Within k first reached left seen next labels i → i < length labels → x ≡ get_or labels i x → labels ≡ facet → ridge ≡ without facet x → items ≡ sides k.facets → shown ≡ items → Moved (over_new (seen ridge) (map facet_of (run_of shown ridge))) reached left now_reached now_left → ((r : List ℕ) → now_seen r ≡ (seen r || pointwise nat_eq ridge r)) → Within k first now_reached now_left now_seen next labels (i + 1)
+pub within_next : (k : ComplexView) (first : List ℕ) (reached left now_reached now_left : List (List ℕ)) (seen now_seen : List ℕ → Bool) (next : ℕ) (facet labels ridge : List ℕ) (i x : ℕ) (items shown : List (List ℕ × ℕ)) → IsComplex k → Within k first reached left seen next labels i → i < length labels → x ≡ get_or labels i x → labels ≡ facet → ridge ≡ without facet x → items ≡ incidences k.facets → shown ≡ items → Moved (over_new (seen ridge) (map facet_of (run_of shown ridge))) reached left now_reached now_left → ((r : List ℕ) → now_seen r ≡ (seen r || pointwise nat_eq ridge r)) → Within k first now_reached now_left now_seen next labels (i + 1)
 within_next k first reached left now_reached now_left seen now_seen next facet labels ridge i x items shown c w l at ef er e es m n =
     let r : ridge ≡ without labels x = er ∙ ap (λ f. without f x) (sym ef) in
     let M : List ℕ → Type 0 = λ q. Moved (over_new (seen q) (map facet_of (run_of shown q))) reached left now_reached now_left in
@@ -440,7 +440,7 @@ within_next k first reached left now_reached now_left seen now_seen next facet l
       ];
     }
 
-pub within_end : (k : Space) (first : List ℕ) (reached left : List (List ℕ)) (seen : List ℕ → Bool) (next : ℕ) (labels : List ℕ) (i : ℕ) → Within k first reached left seen next labels i → length labels ≤ i → Done reached seen (next + 1)
+pub within_end : (k : ComplexView) (first : List ℕ) (reached left : List (List ℕ)) (seen : List ℕ → Bool) (next : ℕ) (labels : List ℕ) (i : ℕ) → Within k first reached left seen next labels i → length labels ≤ i → Done reached seen (next + 1)
 within_end k first reached left seen next labels i w l j x h t = elim (cases_lt j next) [
   | inl lt ↦ w.done j x lt t
   | inr ge ↦
@@ -450,7 +450,7 @@ within_end k first reached left seen next labels i w l j x h t = elim (cases_lt 
       ap (λ m. seen (without m x)) f ∙ ap (λ v. seen (without labels v)) (sym p.2) ∙ w.before p.0 (omega (arith, p.1, l))
 ]
 
-pub not_all : (k : Space) (first : List ℕ) (reached left : List (List ℕ)) (seen : List ℕ → Bool) → Spread k.facets first reached left seen → length reached ≤ length k.facets
+pub not_all : (k : ComplexView) (first : List ℕ) (reached left : List (List ℕ)) (seen : List ℕ → Bool) → Spread k.facets first reached left seen → length reached ≤ length k.facets
 not_all k first reached left seen s = omega (arith, s.total)
 
 pub none_seen : (s : BTreeSet (List ℕ)) (r : List ℕ) → s.keys ≡ [] → contains face_cmp s r ≡ false
@@ -466,5 +466,5 @@ none_left s h = empty s.keys h.1
 pub no_less : (s : BTreeSet (List ℕ)) (other : List ℕ) → ((q : List ℕ) → IsTrue (contains face_cmp s q) → is_gt (face_cmp other q) ≡ false) → (g : List ℕ) → is_facet s.keys g ≡ true → face_cmp g other ≡ Less → ⊥
 no_less s other h g t less = clash {P = ⊥} (is_gt (face_cmp other g)) (ap is_gt (nat_list_cmp_total.antisymm other g ∙ ap ordering_reverse less)) (h g (in_tree s g ∙ t))
 
-pub rest_sorted : (k : Space) (fs : List (List ℕ)) → IsComplex k → fs ≡ k.facets → IsStrictlySortedBy face_cmp (take (length fs - 1) (drop 1 fs))
+pub rest_sorted : (k : ComplexView) (fs : List (List ℕ)) → IsComplex k → fs ≡ k.facets → IsStrictlySortedBy face_cmp (take (length fs - 1) (drop 1 fs))
 rest_sorted k fs c e = let P : List (List ℕ) → Type 0 = λ gs. IsStrictlySortedBy face_cmp gs in subst P (sym (tail_rest fs 1)) (sorted_drop face_cmp 1 fs (subst P (sym e) c.rising))

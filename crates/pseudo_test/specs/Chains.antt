@@ -2,7 +2,7 @@
 use Rattle.std.specs.Prelude.{◌≡◌, true, ℕ, List, [], ◌∷◌}
 use Rattle.std.specs.declared.cmp.Ordering.TheVariants.{Less}
 use Rattle.complex_core.specs.Labels.{holds, face_cmp}
-use Rattle.complex_core.specs.Spaces.{is_facet}
+use Rattle.complex_core.specs.Complexes.{is_facet}
 use Rattle.pseudo_test.specs.Ridges.{IsRidge}
 
 -- two facets share a ridge
@@ -23,7 +23,7 @@ pub record Joined (facets : List (List ℕ)) (f g : List ℕ) : Type 0 where
   pub linked : Linked facets f chain g
 
 -- any two facets are joined
-pub record Strong (facets : List (List ℕ)) : Type 0 where
+pub record StronglyConnected (facets : List (List ℕ)) : Type 0 where
   pub joined : (f g : List ℕ) → is_facet facets f ≡ true → is_facet facets g ≡ true → Joined facets f g
 
 -- no facet is less than this one

@@ -1,5 +1,5 @@
 -- Ridges, and chains of facets.
 pub mod Ridges
 pub mod Chains
-pub mod Sides
+pub mod Incidences
 pub mod Spreads

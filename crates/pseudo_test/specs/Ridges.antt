@@ -2,7 +2,7 @@
 use Rattle.std.specs.Prelude.{◌≡◌, ◌≢◌, true, ℕ, ◌≤◌, List, length}
 use Rattle.std.specs.declared.cmp.Ordering.TheVariants.{Less}
 use Rattle.complex_core.specs.Labels.{has, without, face_cmp}
-use Rattle.complex_core.specs.Spaces.{over, is_facet}
+use Rattle.complex_core.specs.Complexes.{over, is_facet}
 
 -- a facet less one of its labels
 pub record IsRidge (facets : List (List ℕ)) (ridge : List ℕ) : Type 0 where

@@ -1,6 +1,6 @@
 -- What is reached over a ridge.
 use Rattle.std.specs.Prelude.{◌≡◌, ℕ, ◌+◌, Bool, not, ◌&&◌, if◌then◌else◌, List, [], ◌++◌, length}
-use Rattle.complex_core.specs.Spaces.{is_facet}
+use Rattle.complex_core.specs.Complexes.{is_facet}
 
 -- the sets of a list that are left went behind those that are reached
 pub record Moved (run reached left now_reached now_left : List (List ℕ)) : Type 0 where

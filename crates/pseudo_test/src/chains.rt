@@ -5,11 +5,11 @@ ghost use Rattle.std.specs.List.Sorted.{IsStrictlySortedBy};
 ghost use Rattle.std.specs.Cmp.Lexicographic.{pointwise};
 ghost use Rattle.std.specs.BTreeSet.{contains};
 ghost use Rattle.complex_core.specs.Labels.{IsFace, face_cmp};
-ghost use Rattle.pseudo_test.specs.Chains.{Strong, IsApart};
-ghost use Rattle.pseudo_test.specs.Sides.{side_cmp, facet_of, run_of};
+ghost use Rattle.pseudo_test.specs.Chains.{StronglyConnected, IsApart};
+ghost use Rattle.pseudo_test.specs.Incidences.{incidence_cmp, facet_of, run_of};
 ghost use Rattle.pseudo_test.specs.Spreads.{Moved, over_new};
 
-use crate::sides::{all_sides, over};
+use crate::incidences::{all_incidences, over};
 use complex_core::{Complex, Face};
 use std::alloc::{AllocError, Global};
 use std::collections::BTreeSet;
@@ -26,9 +26,9 @@ pub struct Apart {
 ///
 /// Each ridge is looked at once.
 pub fn strong(alloc: Global, complex: &Complex) -> Result<Option<Apart>, AllocError>
-    ensures { IfOk result (λ r. MatchOption r (Strong complex.now.facets) (λ a. IsApart complex.now.facets a.first a.other)) }
+    ensures { IfOk result (λ r. MatchOption r (StronglyConnected complex.now.facets) (λ a. IsApart complex.now.facets a.first a.other)) }
 {
-    let sides = all_sides(alloc, complex)?;
+    let incidences = all_incidences(alloc, complex)?;
     let facets = complex.facets();
     let first = facets[0];
     let mut reached = Vec::from_slice(alloc, &facets[..1])?;
@@ -39,7 +39,7 @@ pub fn strong(alloc: Global, complex: &Complex) -> Result<Option<Apart>, AllocEr
         let facet = reached[next];
         for label in facet.labels().as_slice() {
             let ridge = facet.without(*label);
-            spread(&sides, ridge, &mut seen, &mut rest, &mut reached)?;
+            spread(&incidences, ridge, &mut seen, &mut rest, &mut reached)?;
         }
         next += 1;
     }
@@ -66,21 +66,21 @@ fn all_of(alloc: Global, facets: &[Face]) -> Result<BTreeSet<Face>, AllocError>
 
 // Reaches the facets over a ridge, unless the ridge was seen before.
 fn spread(
-    sides: &[(Face, u16)],
+    incidences: &[(Face, u16)],
     ridge: Face,
     seen: &mut BTreeSet<Face>,
     rest: &mut BTreeSet<Face>,
     reached: &mut Vec<Face>,
 ) -> Result<(), AllocError>
-    requires rising { IsStrictlySortedBy side_cmp sides.now }
-    requires faces { AllByRecursion IsFace (map facet_of (run_of sides.now ridge)) }
-    ensures moved { OnOk result (Moved (over_new (contains face_cmp seen.old ridge) (map facet_of (run_of sides.now ridge))) reached.old.items rest.old.keys reached.new.items rest.new.keys) }
+    requires rising { IsStrictlySortedBy incidence_cmp incidences.now }
+    requires faces { AllByRecursion IsFace (map facet_of (run_of incidences.now ridge)) }
+    ensures moved { OnOk result (Moved (over_new (contains face_cmp seen.old ridge) (map facet_of (run_of incidences.now ridge))) reached.old.items rest.old.keys reached.new.items rest.new.keys) }
     ensures seen { OnOk result ((r : List ℕ) → contains face_cmp seen.new r ≡ (contains face_cmp seen.old r || pointwise nat_eq ridge r)) }
 {
     if !seen.insert(ridge)? {
         return Ok(());
     }
-    reach(over(sides, &ridge), rest, reached)?;
+    reach(over(incidences, &ridge), rest, reached)?;
     Ok(())
 }
 
@@ -93,22 +93,22 @@ fn reach(
     requires { AllByRecursion IsFace (map facet_of run.now) }
     ensures { OnOk result (Moved (map facet_of run.now) reached.old.items rest.old.keys reached.new.items rest.new.keys) }
 {
-    for side in run {
-        reach_one(side, rest, reached)?;
+    for incidence in run {
+        reach_one(incidence, rest, reached)?;
     }
     Ok(())
 }
 
 // Takes a facet to those that were reached, if it is left.
 fn reach_one(
-    side: &(Face, u16),
+    incidence: &(Face, u16),
     rest: &mut BTreeSet<Face>,
     reached: &mut Vec<Face>,
 ) -> Result<(), AllocError>
-    requires { IsFace (facet_of side.now) }
-    ensures { OnOk result (Moved (facet_of side.now ∷ []) reached.old.items rest.old.keys reached.new.items rest.new.keys) }
+    requires { IsFace (facet_of incidence.now) }
+    ensures { OnOk result (Moved (facet_of incidence.now ∷ []) reached.old.items rest.old.keys reached.new.items rest.new.keys) }
 {
-    let Some(facet) = side.0.with(side.1) else {
+    let Some(facet) = incidence.0.with(incidence.1) else {
         unreachable!();
     };
     if !rest.remove(&facet) {

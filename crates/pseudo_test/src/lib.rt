@@ -4,8 +4,8 @@
 
 mod chains;
 mod ridges;
-mod sides;
+mod incidences;
 
 pub use chains::{Apart, strong};
 pub use ridges::{Ridge, closed, thin};
-pub use sides::{all_sides, over};
+pub use incidences::{all_incidences, over};

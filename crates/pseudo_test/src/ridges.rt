@@ -1,9 +1,9 @@
 // Whether each ridge lies in two facets, or in at most two.
 ghost use Rattle.std.specs.Prelude.{◌≡◌, ◌↔◌, IfOk, IsTrue, length, MatchOption};
 ghost use Rattle.pseudo_test.specs.Ridges.{Closed, Thin, IsLeastOther};
-ghost use Rattle.pseudo_test.specs.Sides.{IsRun};
+ghost use Rattle.pseudo_test.specs.Incidences.{IsRun};
 
-use crate::sides::{all_sides, over};
+use crate::incidences::{all_incidences, over};
 use complex_core::{Complex, Face};
 use std::alloc::{AllocError, Global};
 
@@ -18,12 +18,12 @@ pub struct Ridge {
 pub fn closed(alloc: Global, complex: &Complex) -> Result<Option<Ridge>, AllocError>
     ensures { IfOk result (λ r. MatchOption r (Closed complex.now.facets) (λ r. IsLeastOther complex.now.facets r.face r.count)) }
 {
-    let sides = all_sides(alloc, complex)?;
-    for side in &sides {
-        let count = count(over(&sides, &side.0));
+    let incidences = all_incidences(alloc, complex)?;
+    for incidence in &incidences {
+        let count = count(over(&incidences, &incidence.0));
         if count != 2 {
             return Ok(Some(Ridge {
-                face: side.0,
+                face: incidence.0,
                 count,
             }));
         }
@@ -35,16 +35,16 @@ pub fn closed(alloc: Global, complex: &Complex) -> Result<Option<Ridge>, AllocEr
 pub fn thin(alloc: Global, complex: &Complex) -> Result<bool, AllocError>
     ensures { IfOk result (λ t. IsTrue t ↔ Thin complex.now.facets) }
 {
-    let sides = all_sides(alloc, complex)?;
-    for side in &sides {
-        if over(&sides, &side.0).len() > 2 {
+    let incidences = all_incidences(alloc, complex)?;
+    for incidence in &incidences {
+        if over(&incidences, &incidence.0).len() > 2 {
             return Ok(false);
         }
     }
     Ok(true)
 }
 
-// How many sides a ridge has. Their labels differ, so there are at most 65,536.
+// How many incidences a ridge has. Their labels differ, so there are at most 65,536.
 fn count(run: &[(Face, u16)]) -> u32
     requires { IsRun run.now }
     ensures { result ≡ length run.now }

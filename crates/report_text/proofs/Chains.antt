@@ -6,7 +6,7 @@ use Rattle.std.proofs.Math.Nat.{mul-suc}
 use Rattle.std.proofs.lemmas.List.{append-nil}
 use Rattle.std.proofs.lemmas.List.Folds.{list_all-append}
 use Rattle.std.proofs.lemmas.Nat.{mul-le}
-use Rattle.complex_core.specs.Spaces.{Space, IsComplex}
+use Rattle.complex_core.specs.Complexes.{ComplexView, IsComplex}
 use Rattle.complex_core.proofs.Sorting.{each_append}
 use Rattle.flip_rules.specs.Entries.{JournalEntry}
 use Rattle.flip_rules.specs.Flips.{OfFaces, replay}
@@ -34,27 +34,27 @@ use Rattle.round_run.proofs.Histories.{flat_descent}
 -- ---- flips that are legal in order, with names
 
 -- flips of faces, legal in order, with this end, and the map takes all of their labels
-pub record Leads (m : List (ℕ × ℕ)) (k : Space) (flips : List Flip) (end : Space) : Type 0 where
+pub record Leads (m : List (ℕ × ℕ)) (k : ComplexView) (flips : List Flip) (end : ComplexView) : Type 0 where
   pub replays : replay k flips ≡ Some end
   pub faces : AllByRecursion OfFaces flips
   pub taken : takes_flips m flips ≡ true
 
-leads_on : (m : List (ℕ × ℕ)) (k l end : Space) (fs gs : List Flip) → Leads m k fs l → Leads m l gs end → Leads m k (fs ++ gs) end
+leads_on : (m : List (ℕ × ℕ)) (k l end : ComplexView) (fs gs : List Flip) → Leads m k fs l → Leads m l gs end → Leads m k (fs ++ gs) end
 leads_on m k l end fs gs h g = record {
   replays = replay-append k l fs gs h.replays ∙ g.replays;
   faces = each_append OfFaces fs gs h.faces g.faces;
   taken = list_all-append (takes_flip m) fs gs ∙ both_true h.taken g.taken;
 }
 
-end_is_named : (m : List (ℕ × ℕ)) (k l : Space) (flips : List Flip) → Renames m k → Leads m k flips l → Renames m l
+end_is_named : (m : List (ℕ × ℕ)) (k l : ComplexView) (flips : List Flip) → Renames m k → Leads m k flips l → Renames m l
 end_is_named m k l flips r h = replay_stays_taken m k l flips (record { complex = r; faces = h.faces; taken = h.taken }) h.replays
 
-descent_leads : (m : List (ℕ × ℕ)) (k low : Space) (d : List Flip) → Renames m k → IsDescent k d low → Leads m k d low
+descent_leads : (m : List (ℕ × ℕ)) (k low : ComplexView) (d : List Flip) → Renames m k → IsDescent k d low → Leads m k d low
 descent_leads m k low d r h =
     let s : Descends k d low = descent_descends k low d h in
     record { replays = s.replays; faces = s.faces; taken = reducing_flips_taken m k low d r.taken s.faces (all_reduce k low d h) s.replays }
 
-round_leads : (m : List (ℕ × ℕ)) (plan : Numbers) (n : ℕ) (low next : Space) (r : RoundView) → TakesPlaces m → RoundOk (scene low (length m) n plan) r next → Leads m low (flat r.entries) next
+round_leads : (m : List (ℕ × ℕ)) (plan : Numbers) (n : ℕ) (low next : ComplexView) (r : RoundView) → TakesPlaces m → RoundOk (scene low (length m) n plan) r next → Leads m low (flat r.entries) next
 round_leads m plan n low next r d h = record {
   replays = h.replays;
   faces = faces_in n (length m) (plan.workers + 1) r.entries h.entries;
@@ -68,7 +68,7 @@ few_in_entries round places seats [] h = omega arith
 few_in_entries round places seats (e ∷ es) h = omega (arith, h.0.few, few_in_entries round places seats es h.1, length-append e.flips (flat es))
 
 -- each flip of a descent takes a facet off at least, and a round has at most `most` entries, each with at most four flips and six more facets
-few_in_round : (m : List (ℕ × ℕ)) (plan : Numbers) (n : ℕ) (low next : Space) (r : RoundView) → IsComplex low → RoundOk (scene low (length m) n plan) r next → length (flat r.entries) + length next.facets ≤ length low.facets + 10 * (plan.workers * plan.tries)
+few_in_round : (m : List (ℕ × ℕ)) (plan : Numbers) (n : ℕ) (low next : ComplexView) (r : RoundView) → IsComplex low → RoundOk (scene low (length m) n plan) r next → length (flat r.entries) + length next.facets ≤ length low.facets + 10 * (plan.workers * plan.tries)
 few_in_round m plan n low next r c h =
     let grown = round_grows (scene low (length m) n plan) r next c h in
     let more : low.dim * length r.entries ≤ 6 * length r.entries = mul-le low.dim (length r.entries) 6 (length r.entries) c.low (omega arith) in
@@ -89,20 +89,20 @@ flat_turn n d ds r rs =
 -- ---- the whole chain
 
 -- the flips lead to the end, and with its facets they are no more than the facets at the start and ten for each try of these rounds
-pub record Runs (m : List (ℕ × ℕ)) (plan : Numbers) (k : Space) (flips : List Flip) (rounds : ℕ) (end : Space) : Type 0 where
+pub record Runs (m : List (ℕ × ℕ)) (plan : Numbers) (k : ComplexView) (flips : List Flip) (rounds : ℕ) (end : ComplexView) : Type 0 where
   pub leads : Leads m k flips end
   pub few : length flips + length end.facets ≤ length k.facets + 10 * (plan.workers * plan.tries * rounds)
 
-runs_none : (m : List (ℕ × ℕ)) (plan : Numbers) (k end : Space) → end ≡ k → Runs m plan k [] 0 end
+runs_none : (m : List (ℕ × ℕ)) (plan : Numbers) (k end : ComplexView) → end ≡ k → Runs m plan k [] 0 end
 runs_none m plan k end e = record {
   leads = record { replays = ap Some (sym e); faces = tt; taken = refl };
-  few = omega (arith, ap (λ (l : Space). length l.facets) e);
+  few = omega (arith, ap (λ (l : ComplexView). length l.facets) e);
 }
 
-runs_last : (m : List (ℕ × ℕ)) (plan : Numbers) (k end : Space) (d : List Flip) → Renames m k → IsDescent k d end → Runs m plan k d 0 end
+runs_last : (m : List (ℕ × ℕ)) (plan : Numbers) (k end : ComplexView) (d : List Flip) → Renames m k → IsDescent k d end → Runs m plan k d 0 end
 runs_last m plan k end d r h = record { leads = descent_leads m k end d r h; few = omega (arith, (descent_descends k end d h).falls) }
 
-runs_turn : (m : List (ℕ × ℕ)) (plan : Numbers) (n : ℕ) (k low next end : Space) (d : List Flip) (r : RoundView) (flips : List Flip) (rounds : ℕ) → TakesPlaces m → Renames m k → IsDescent k d low → RoundOk (scene low (length m) n plan) r next → (Renames m next → Runs m plan next flips rounds end) → Runs m plan k (d ++ (flat r.entries ++ flips)) (suc rounds) end
+runs_turn : (m : List (ℕ × ℕ)) (plan : Numbers) (n : ℕ) (k low next end : ComplexView) (d : List Flip) (r : RoundView) (flips : List Flip) (rounds : ℕ) → TakesPlaces m → Renames m k → IsDescent k d low → RoundOk (scene low (length m) n plan) r next → (Renames m next → Runs m plan next flips rounds end) → Runs m plan k (d ++ (flat r.entries ++ flips)) (suc rounds) end
 runs_turn m plan n k low next end d r flips rounds places named h ok rest =
     let down : Leads m k d low = descent_leads m k low d named h in
     let across : Leads m low (flat r.entries) next = round_leads m plan n low next r places ok in
@@ -119,14 +119,14 @@ runs_turn m plan n k low next end d r flips rounds places named h ok rest =
       few = omega (arith, falls, grows, few, whole, later, product);
     }
 
-pub chain_runs : (m : List (ℕ × ℕ)) (plan : Numbers) (n : ℕ) (k end : Space) (ds : List (List Flip)) (lows : List Space) (rs : List RoundView) → TakesPlaces m → Renames m k → Chain plan (length m) n k ds lows rs end → Runs m plan k (flat (history_from n ds rs)) (length rs) end
+pub chain_runs : (m : List (ℕ × ℕ)) (plan : Numbers) (n : ℕ) (k end : ComplexView) (ds : List (List Flip)) (lows : List ComplexView) (rs : List RoundView) → TakesPlaces m → Renames m k → Chain plan (length m) n k ds lows rs end → Runs m plan k (flat (history_from n ds rs)) (length rs) end
 chain_runs m plan n k end [] [] [] places named c = runs_none m plan k end c
 chain_runs m plan n k end [] [] (r ∷ rs) places named c = absurd c
 chain_runs m plan n k end [] (low ∷ lows) rs places named c = absurd c
 chain_runs m plan n k end (d ∷ ds) [] rs places named c = absurd c
 chain_runs m plan n k end (d ∷ ds) (low ∷ lows) [] places named c =
     let P : List Flip → Type 0 = λ fs. Runs m plan k fs 0 end in
-    let here : IsDescent k d end = subst (λ (l : Space). IsDescent k d l) (sym c.1) c.0 in
+    let here : IsDescent k d end = subst (λ (l : ComplexView). IsDescent k d l) (sym c.1) c.0 in
     subst P (sym (ap (λ es. flat (history_from n (d ∷ es) [])) c.2 ∙ flat_last n d)) (runs_last m plan k end d named here)
 chain_runs m plan n k end (d ∷ ds) (low ∷ lows) (r ∷ rs) places named c =
     let P : List Flip → Type 0 = λ fs. Runs m plan k fs (length (r ∷ rs)) end in

@@ -3,9 +3,9 @@ use Rattle.std.proofs.Common.{◌≤◌, List, [], ◌∷◌, length, codes, len
 use Rattle.std.specs.List.{flat_map}
 use Rattle.std.specs.Fmt.{decimal}
 use Rattle.std.proofs.lemmas.Fmt.{length-decimal-le}
-use Rattle.complex_core.specs.Spaces.{Space}
+use Rattle.complex_core.specs.Complexes.{ComplexView}
 use Rattle.facet_text.specs.Writing as facet
-use Rattle.cert_text.specs.Claims.{Sphere}
+use Rattle.cert_text.specs.Statements.{Sphere}
 use Rattle.cert_text.specs.Writing.{text_of, flips_text, number_line, flip_line_text, AreFlips}
 use Rattle.flip_rules.specs.declared.flip.Flip.{Flip}
 use Rattle.sphere_text.proofs.Lengths.{certified_is_short, short_flips}
@@ -18,7 +18,7 @@ short_certificate flips h l =
     omega (arith, n, l, short_flips flips h.sides, length-append (decimal (length flips)) (10 ∷ []), length-append (number_line (codes "flips") (length flips)) (flat_map flip_line_text flips))
 
 -- with no flip behind it the text of the complex is within its bound
-short_complex : (k : Space) → facet.KeepsLimits k → length (facet.text_of k.facets) ≤ 4194304
+short_complex : (k : ComplexView) → facet.KeepsLimits k → length (facet.text_of k.facets) ≤ 4194304
 short_complex k h =
     let none : AreFlips [] = record { few = omega arith; sides = tt } in
     omega (arith, certified_is_short k [] h none (omega arith), length-append (facet.text_of k.facets) (10 ∷ text_of (Sphere [])))

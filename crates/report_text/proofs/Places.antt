@@ -5,7 +5,7 @@ use Rattle.std.specs.Cmp.Derive.{both_true}
 use Rattle.std.proofs.lemmas.List.Folds.{list_all-append}
 use Rattle.complex_core.specs.Labels.{IsFace, has}
 use Rattle.complex_core.specs.Maps.{takes, names_of, used, greatest, next_after}
-use Rattle.complex_core.specs.Spaces.{Space}
+use Rattle.complex_core.specs.Complexes.{ComplexView}
 use Rattle.complex_core.proofs.Laws.{each_has, or_left, or_right}
 use Rattle.flip_rules.specs.Entries.{JournalEntry}
 use Rattle.flip_rules.specs.Flips.{OfFaces}
@@ -23,7 +23,7 @@ use Rattle.complex_core.proofs.Places.{length_numbered, place_named}
 abbrev pub TakesPlaces : List (ℕ × ℕ) → Type 0
 TakesPlaces m = (p : ℕ) → 0 < p → p ≤ length m → takes m p ≡ true
 
-pub names_take_places : (k : Space) (room : ℕ) → TakesPlaces (names_of k.facets room)
+pub names_take_places : (k : ComplexView) (room : ℕ) → TakesPlaces (names_of k.facets room)
 names_take_places k room p low high =
     let labels : List ℕ = used k.facets ++ next_after (greatest (used k.facets)) room in
     place_named 1 labels p (omega (arith, low)) (omega (arith, high, length_numbered 1 labels))

@@ -2,12 +2,12 @@
 use Rattle.std.proofs.Common.{◌≡◌, ℕ, ◌+◌, ◌<◌, List, [], ◌∷◌, length, sym, ◌∙◌, ap, refl, subst, arith}
 use Rattle.std.specs.List.{AllByRecursion}
 use Rattle.complex_core.specs.Maps.{renamed, names_of, turned}
-use Rattle.complex_core.specs.Spaces.{Space}
+use Rattle.complex_core.specs.Complexes.{ComplexView}
 use Rattle.flip_rules.specs.Boundaries.{IsBoundary}
 use Rattle.flip_rules.specs.declared.flip.Flip.{Flip}
 use Rattle.descent_laws.specs.Descents.{IsMinimal, IsDescent}
 use Rattle.descent_laws.proofs.DescentRuns.{descent_descends, descent_is_one}
-use Rattle.sphere_text.specs.Claims.{placed}
+use Rattle.sphere_text.specs.Statements.{placed}
 use Rattle.sphere_text.proofs.Cycles.{cycle_is_decided}
 use Rattle.anneal_plan.specs.Numbers.{Numbers}
 use Rattle.round_rules.specs.Rounds.{RoundView}
@@ -15,14 +15,14 @@ use Rattle.round_run.specs.Reports.{ReportView, ReportOk, Chain, IsElsewhere}
 use Rattle.report_text.specs.Laws.{EndIsMinimal, CycleIsFound, DescentReportIsOne}
 
 -- the same chain, where the places are told by the complex
-pub chain_of : (k : Space) (plan : Numbers) (r : ReportView) (ok : ReportOk k plan r) → Chain plan (length (names_of k.facets plan.room)) 0 (placed k plan.room) r.descents ok.lows r.rounds r.end
+pub chain_of : (k : ComplexView) (plan : Numbers) (r : ReportView) (ok : ReportOk k plan r) → Chain plan (length (names_of k.facets plan.room)) 0 (placed k plan.room) r.descents ok.lows r.rounds r.end
 chain_of k plan r ok =
     let P : List (ℕ × ℕ) → Type 0 = λ ns. Chain plan (length ns) 0 (renamed k (turned ns)) r.descents ok.lows r.rounds r.end in
     subst P ok.names ok.chain
 
 -- ---- the last descent
 
-last_is_minimal : (plan : Numbers) (places n : ℕ) (k end : Space) (ds : List (List Flip)) (lows : List Space) (rs : List RoundView) → Chain plan places n k ds lows rs end → length ds ≡ length rs + 1 → IsMinimal end
+last_is_minimal : (plan : Numbers) (places n : ℕ) (k end : ComplexView) (ds : List (List Flip)) (lows : List ComplexView) (rs : List RoundView) → Chain plan places n k ds lows rs end → length ds ≡ length rs + 1 → IsMinimal end
 last_is_minimal plan places n k end [] [] [] c e = absurd (omega (arith, e))
 last_is_minimal plan places n k end [] [] (r ∷ rs) c e = absurd c
 last_is_minimal plan places n k end [] (low ∷ lows) rs c e = absurd c
@@ -36,7 +36,7 @@ end_is_minimal k plan r ok e = last_is_minimal plan (length (names_of k.facets p
 -- ---- the first descent
 
 -- where each descent from the start ends in a boundary, not all ends are elsewhere
-first_ends : (plan : Numbers) (places n : ℕ) (k end : Space) (ds : List (List Flip)) (lows : List Space) (rs : List RoundView) → ((flips : List Flip) (low : Space) → IsDescent k flips low → IsBoundary low) → 0 < length ds → Chain plan places n k ds lows rs end → AllByRecursion IsElsewhere lows → ⊥
+first_ends : (plan : Numbers) (places n : ℕ) (k end : ComplexView) (ds : List (List Flip)) (lows : List ComplexView) (rs : List RoundView) → ((flips : List Flip) (low : ComplexView) → IsDescent k flips low → IsBoundary low) → 0 < length ds → Chain plan places n k ds lows rs end → AllByRecursion IsElsewhere lows → ⊥
 first_ends plan places n k end [] lows rs ends some c none = omega (arith, some)
 first_ends plan places n k end (d ∷ ds) [] rs ends some c none = c
 first_ends plan places n k end (d ∷ ds) (low ∷ lows) [] ends some c none = none.0 (ends d low c.0)
@@ -49,16 +49,16 @@ cycle_is_found k plan r cycle u =
 
 -- ---- one descent alone
 
-record IsAlone (k : Space) (ds : List (List Flip)) (rs : List RoundView) (end : Space) : Type 0 where
+record IsAlone (k : ComplexView) (ds : List (List Flip)) (rs : List RoundView) (end : ComplexView) : Type 0 where
   flips : List Flip
   descents : ds ≡ flips ∷ []
   rounds : rs ≡ []
   descent : IsDescent k flips end
 
-alone : (plan : Numbers) (places n : ℕ) (k end : Space) (ds : List (List Flip)) (lows : List Space) (rs : List RoundView) → length rs ≡ 0 → length ds ≡ 1 → Chain plan places n k ds lows rs end → IsAlone k ds rs end
+alone : (plan : Numbers) (places n : ℕ) (k end : ComplexView) (ds : List (List Flip)) (lows : List ComplexView) (rs : List RoundView) → length rs ≡ 0 → length ds ≡ 1 → Chain plan places n k ds lows rs end → IsAlone k ds rs end
 alone plan places n k end [] lows rs none one c = absurd (omega (arith, one))
 alone plan places n k end (d ∷ ds) [] rs none one c = absurd c
-alone plan places n k end (d ∷ ds) (low ∷ lows) [] none one c = record { flips = d; descents = ap (λ es. d ∷ es) c.2; rounds = refl; descent = subst (λ (l : Space). IsDescent k d l) (sym c.1) c.0 }
+alone plan places n k end (d ∷ ds) (low ∷ lows) [] none one c = record { flips = d; descents = ap (λ es. d ∷ es) c.2; rounds = refl; descent = subst (λ (l : ComplexView). IsDescent k d l) (sym c.1) c.0 }
 alone plan places n k end (d ∷ ds) (low ∷ lows) (r ∷ rs) none one c = absurd (omega (arith, none))
 
 pub descent_report_is_one : DescentReportIsOne

@@ -4,7 +4,7 @@ use Rattle.std.proofs.Math.Nat.{mul_assoc, mul_comm}
 use Rattle.std.proofs.lemmas.List.{length-map}
 use Rattle.std.proofs.lemmas.Nat.{mul-le}
 use Rattle.complex_core.specs.Maps.{names_of}
-use Rattle.complex_core.specs.Spaces.{Space}
+use Rattle.complex_core.specs.Complexes.{ComplexView}
 use Rattle.facet_text.specs.Writing.{KeepsLimits as KeepsTextLimits}
 use Rattle.flip_rules.specs.Certificates.{SphereCert}
 use Rattle.flip_rules.specs.Journals.{flat}
@@ -12,7 +12,7 @@ use Rattle.flip_rules.specs.declared.flip.Flip.{Flip}
 use Rattle.flip_names.specs.Laws.{RenamesAll}
 use Rattle.flip_names.specs.Names.{named_flip, named_flips}
 use Rattle.flip_names.proofs.Replays.{certificate_is_kept}
-use Rattle.sphere_text.specs.Claims.{placed}
+use Rattle.sphere_text.specs.Statements.{placed}
 use Rattle.sphere_text.proofs.Fits.{names_are_small}
 use Rattle.sphere_text.proofs.Grounds.{Ground, ground}
 use Rattle.anneal_plan.specs.Numbers.{Numbers, KeepsLimits, all_tries}
@@ -35,18 +35,18 @@ few_tries plan rounds limits few =
     omega (arith, all, same, limits.product)
 
 -- the report with these parts, where its names are those of the complex
-reported : (k : Space) (plan : Numbers) (input : Space) (ds : List (List Flip)) (lows : List Space) (rs : List RoundView) (end : Space) → KeepsTextLimits k → KeepsLimits plan → length rs ≤ plan.rounds → Chain plan (length (names_of k.facets plan.room)) 0 (placed k plan.room) ds lows rs end
+reported : (k : ComplexView) (plan : Numbers) (input : ComplexView) (ds : List (List Flip)) (lows : List ComplexView) (rs : List RoundView) (end : ComplexView) → KeepsTextLimits k → KeepsLimits plan → length rs ≤ plan.rounds → Chain plan (length (names_of k.facets plan.room)) 0 (placed k plan.room) ds lows rs end
     → IsReported k plan (record { input = input; names = names_of k.facets plan.room; descents = ds; rounds = rs; end = end })
 reported k plan input ds lows rs end small limits few c =
     let m : List (ℕ × ℕ) = names_of k.facets plan.room in
-    let start : Space = placed k plan.room in
+    let start : ComplexView = placed k plan.room in
     let flips : List Flip = flat (history_from 0 ds rs) in
     let g : Ground k m = ground k plan.room small.complex in
     let runs : Runs m plan start flips (length rs) end = chain_runs m plan 0 start end ds lows rs (names_take_places k plan.room) g.here c in
     let l : Leads m start flips end = runs.leads in
     let most : length flips ≤ 2520000 = omega (arith, runs.few, few_tries plan (length rs) limits few, placed_length k plan.room, small.few_facets) in
     let all : RenamesAll m start flips = record { complex = g.here; faces = l.faces; taken = l.taken } in
-    let P : Space → Type 0 = λ s. SphereCert s (named_flips m flips) in
+    let P : ComplexView → Type 0 = λ s. SphereCert s (named_flips m flips) in
     record {
       start = g.back;
       replays = l.replays;

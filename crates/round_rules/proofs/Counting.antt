@@ -11,10 +11,10 @@ use Rattle.std.proofs.lemmas.List.Filters.{length-filter_both}
 use Rattle.std.proofs.lemmas.Option.{same_Some}
 use Rattle.complex_core.specs.Labels.{has, holds, without, face_cmp}
 use Rattle.complex_core.specs.Rising.{rising}
-use Rattle.complex_core.specs.Spaces.{Space, over, beside}
+use Rattle.complex_core.specs.Complexes.{ComplexView, over, beside}
 use Rattle.complex_core.proofs.Sets.{above_head, above_tail, among, among-rising, length-put_new}
 use Rattle.complex_core.proofs.Laws.{has-union, has-without, or_left, or_right, listed, listed-among, same_sets_is, both_false, above_not, nat_eq_same, nat_eq_swap}
-use Rattle.flip_rules.specs.Flips.{OfFaces, sides, why, flipped, replay}
+use Rattle.flip_rules.specs.Flips.{OfFaces, join_boundary, broken_rule, flipped, replay}
 use Rattle.flip_rules.specs.Entries.{JournalEntry}
 use Rattle.flip_rules.specs.Journals.{flat}
 use Rattle.flip_rules.specs.declared.flip.Flip.{Flip}
@@ -64,13 +64,13 @@ many_sides a b (x ∷ xs) apart sorted part =
 -- ---- flips
 
 -- a legal flip adds at most its change
-flip_adds : (k : Space) (f : Flip) → OfFaces f → why k f.a f.b ≡ Ok tt → pos (length (flipped k f.a f.b).facets) ≤ℤ (pos (length k.facets) +ℤ change k.dim f)
+flip_adds : (k : ComplexView) (f : Flip) → OfFaces f → broken_rule k f.a f.b ≡ Ok tt → pos (length (flipped k f.a f.b).facets) ≤ℤ (pos (length k.facets) +ℤ change k.dim f)
 flip_adds k f faces is =
     let l = legal k f.a f.b is in
     let out : length (over k.facets f.a) ≡ length f.b = ap length l.link ∙ many_sides f.a f.b f.b l.shape.apart (above_tail nat_cmp 0 f.b faces.second.rising) (λ x t. t) in
     let both = length-filter_both (λ g. holds g f.a) (λ g. not (holds g f.a)) (λ g. refl) k.facets in
-    let more = length-append (beside k.facets f.a) (sides f.b f.a) in
-    let most = rising_length (beside k.facets f.a ++ sides f.b f.a) in
+    let more = length-append (beside k.facets f.a) (join_boundary f.b f.a) in
+    let most = rising_length (beside k.facets f.a ++ join_boundary f.b f.a) in
     let new = length-map f.a (side f.b f.a) in
     let sizes = l.shape.sizes in
     let some = l.shape.second in
@@ -80,15 +80,15 @@ sum_of : (x y z : ℤ) (m c : ℤ) → y ≤ℤ (x +ℤ m) → z ≤ℤ (y +ℤ 
 sum_of x y z m c h g = omega (arith, ints, h, g)
 
 -- flips one after another add at most their changes
-replay_adds : (k m : Space) (fs : List Flip) → AllByRecursion OfFaces fs → replay k fs ≡ Some m → pos (length m.facets) ≤ℤ (pos (length k.facets) +ℤ changes k.dim fs)
-replay_adds k m [] faces r = let same : length k.facets ≡ length m.facets = ap (λ (l : Space). length l.facets) (same_Some k m r) in omega (arith, ints, same)
+replay_adds : (k m : ComplexView) (fs : List Flip) → AllByRecursion OfFaces fs → replay k fs ≡ Some m → pos (length m.facets) ≤ℤ (pos (length k.facets) +ℤ changes k.dim fs)
+replay_adds k m [] faces r = let same : length k.facets ≡ length m.facets = ap (λ (l : ComplexView). length l.facets) (same_Some k m r) in omega (arith, ints, same)
 replay_adds k m (f ∷ fs) faces r =
     let p = first_flip k m f fs r in
     sum_of (pos (length k.facets)) (pos (length (flipped k f.a f.b).facets)) (pos (length m.facets)) (change k.dim f) (changes k.dim fs) (flip_adds k f faces.0 p.0) (replay_adds (flipped k f.a f.b) m fs faces.1 p.1)
 
 -- entries that each add at most d facets
-entries_add : (d round places seats : ℕ) (k m : Space) (es : List JournalEntry) → k.dim ≡ d → AllByRecursion (IsEntry round places seats) es → AllByRecursion (Gains d) es → replay k (flat es) ≡ Some m → length m.facets ≤ length k.facets + d * length es
-entries_add d round places seats k m [] is h gains r = let same : length k.facets ≡ length m.facets = ap (λ (l : Space). length l.facets) (same_Some k m r) in omega (arith, same)
+entries_add : (d round places seats : ℕ) (k m : ComplexView) (es : List JournalEntry) → k.dim ≡ d → AllByRecursion (IsEntry round places seats) es → AllByRecursion (Gains d) es → replay k (flat es) ≡ Some m → length m.facets ≤ length k.facets + d * length es
+entries_add d round places seats k m [] is h gains r = let same : length k.facets ≡ length m.facets = ap (λ (l : ComplexView). length l.facets) (same_Some k m r) in omega (arith, same)
 entries_add d round places seats k m (e ∷ es) is h gains r =
     let p = replay_split k m e.flips (flat es) r in
     let one = replay_adds k p.0 e.flips h.0.faces p.1 in

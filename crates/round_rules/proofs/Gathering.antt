@@ -6,7 +6,7 @@ use lib.ListN.{get_elem?}
 use Rattle.std.proofs.lemmas.List.{length-map}
 use Rattle.complex_core.specs.Labels.{face_cmp}
 use Rattle.complex_core.specs.Rising.{rising}
-use Rattle.complex_core.specs.Spaces.{Space}
+use Rattle.complex_core.specs.Complexes.{ComplexView}
 use Rattle.complex_core.specs.ComplexFaults.{first_size}
 use Rattle.flip_rules.specs.Flips.{replay}
 use Rattle.flip_rules.specs.Entries.{JournalEntry}
@@ -16,9 +16,9 @@ use Rattle.stars.specs.Building.{first_rows}
 use Rattle.stars.proofs.Gathering.{gathered_facets, made_complex}
 use Rattle.board_rule.specs.Rule.{FitsAt, Fits, Noted, HasWon, IsEntry}
 use Rattle.board_rule.specs.Tries.{Try, has_won}
-use Rattle.board_rule.specs.declared.about.About.{About}
+use Rattle.board_rule.specs.declared.setup.Setup.{Setup}
 use Rattle.board_rule.specs.declared.kept.Kept.{Kept}
-use Rattle.board_rule.specs.declared.view.Chief.{Chief}
+use Rattle.board_rule.specs.declared.view.MainView.{MainView}
 use Rattle.board_rule.proofs.Seats.{there}
 use Rattle.board_rule.proofs.TryingEntries.{every, is_of}
 use Rattle.vertex_claims.specs.Ended.{IsPast}
@@ -39,29 +39,29 @@ use Rattle.round_rules.proofs.Gaining.{Gains, gains_all, few_numbers, homed}
 use Rattle.round_rules.proofs.Parts.{each_part, few_in_parts}
 
 -- stars for all places are those of one complex
-one_complex : (k l : Space) (stars : StarList) → IsStarListOf k stars → IsStarListOf l stars → k ≡ l
+one_complex : (k l : ComplexView) (stars : StarList) → IsStarListOf k stars → IsStarListOf l stars → k ≡ l
 one_complex k l stars h g =
     let facets = flat_map first_rows (all_stars stars) in
-    let made : Space = record { dim = first_size facets - 1; facets = rising face_cmp facets } in
+    let made : ComplexView = record { dim = first_size facets - 1; facets = rising face_cmp facets } in
     sym (made_complex k made facets facets (gathered_facets k stars h) refl refl refl) ∙ made_complex l made facets facets (gathered_facets l stars g) refl refl refl
 
 -- ---- the notes of the board's start and round are those of the scene
 
-fits_after : (s : Scene) (about : About) (before : List JournalEntry) (w : ℕ) (t : Try) → about.start.value ≡ s.start → about.round ≡ s.round → FitsAt about before w t → FitsAfter s.start s.round before w t
-fits_after s about before w t start round f = record {
+fits_after : (s : Scene) (setup : Setup) (before : List JournalEntry) (w : ℕ) (t : Try) → setup.start.value ≡ s.start → setup.round ≡ s.round → FitsAt setup before w t → FitsAfter s.start s.round before w t
+fits_after s setup before w t start round f = record {
   there = f.there;
-  replays = ap (λ (k : Space). replay k (flat before)) (sym start) ∙ f.replays;
+  replays = ap (λ (k : ComplexView). replay k (flat before)) (sym start) ∙ f.replays;
   items = f.items;
   count = ap (λ (n : ℕ). length (mine before n w)) (sym round) ∙ f.count;
 }
 
-fitting_of : (s : Scene) (about : About) (entries : List JournalEntry) (w : ℕ) (t : Try) → about.start.value ≡ s.start → about.round ≡ s.round → Fits about entries w t → Fitting s entries w t
-fitting_of s about entries w t start round f = record { before = f.before; next = f.after; whole = f.whole; fits = fits_after s about f.before w t start round f.fits }
+fitting_of : (s : Scene) (setup : Setup) (entries : List JournalEntry) (w : ℕ) (t : Try) → setup.start.value ≡ s.start → setup.round ≡ s.round → Fits setup entries w t → Fitting s entries w t
+fitting_of s setup entries w t start round f = record { before = f.before; next = f.after; whole = f.whole; fits = fits_after s setup f.before w t start round f.fits }
 
-noted_in : (s : Scene) (about : About) (entries : List JournalEntry) (w : ℕ) (tries : List Try) → about.start.value ≡ s.start → about.round ≡ s.round → Noted about entries w tries → NotedIn s entries w tries
-noted_in s about entries w tries start round n = record {
-  fits = every (λ (t : Try). t.won ≡ true → Fits about entries w t) (λ (t : Try). t.won ≡ true → Fitting s entries w t) (λ t f won. fitting_of s about entries w t start round (f won)) tries n.fits;
-  last = λ before next e t whole by latest. fits_after s about before w t start round (n.last before next e t whole by latest);
+noted_in : (s : Scene) (setup : Setup) (entries : List JournalEntry) (w : ℕ) (tries : List Try) → setup.start.value ≡ s.start → setup.round ≡ s.round → Noted setup entries w tries → NotedIn s entries w tries
+noted_in s setup entries w tries start round n = record {
+  fits = every (λ (t : Try). t.won ≡ true → Fits setup entries w t) (λ (t : Try). t.won ≡ true → Fitting s entries w t) (λ t f won. fitting_of s setup entries w t start round (f won)) tries n.fits;
+  last = λ before next e t whole by latest. fits_after s setup before w t start round (n.last before next e t whole by latest);
 }
 
 -- ---- one worker
@@ -69,7 +69,7 @@ noted_in s about entries w tries start round n = record {
 one_kept : (back : List Kept) (w : ℕ) (k l : Kept) → get_elem? back w ≡ some k → get_elem? back w ≡ some l → k ≡ l
 one_kept back w k l h g = some-injective k l (sym h ∙ g)
 
-had_there : (s : Scene) (c : Chief) (r : RoundView) (w q : ℕ) (marks : MarkList) (answers : List Tried) → get_elem? r.marks (w - 1) ≡ some marks → (a : IsAccount s c w marks answers) → HadIn s r.entries (task_at s w) (marks_of a.kept.tries) q → Had s r w q
+had_there : (s : Scene) (c : MainView) (r : RoundView) (w q : ℕ) (marks : MarkList) (answers : List Tried) → get_elem? r.marks (w - 1) ≡ some marks → (a : IsAccount s c w marks answers) → HadIn s r.entries (task_at s w) (marks_of a.kept.tries) q → Had s r w q
 had_there s c r w q marks answers is a i = record {
   marks = marks;
   is = is;
@@ -83,17 +83,17 @@ had_there s c r w q marks answers is a i = record {
   place = i.place;
 }
 
-module _ (s : Scene) (about : About) (c : Chief) (r : RoundView) (stars : StarList) (g : IsGathered s about c r stars) where
-  settled : (w : ℕ) (kept : Kept) → IsPast about c r.entries w kept → Settled s r.entries w (length c.back) (task_at s w) kept.tries
+module _ (s : Scene) (setup : Setup) (c : MainView) (r : RoundView) (stars : StarList) (g : IsGathered s setup c r stars) where
+  settled : (w : ℕ) (kept : Kept) → IsPast setup c r.entries w kept → Settled s r.entries w (length c.back) (task_at s w) kept.tries
   settled w kept past = record {
     rises = g.board.complex.rising;
     dim = λ n. refl;
     seats_are = g.board.workers;
-    noted = noted_in s about r.entries w kept.tries g.board.start g.board.round_is past.notes;
+    noted = noted_in s setup r.entries w kept.tries g.board.start g.board.round_is past.notes;
     names = past.names;
   }
 
-  past_of : (w : ℕ) (marks : MarkList) (answers : List Tried) → 0 < w → (a : IsAccount s c w marks answers) → IsPast about c r.entries w a.kept
+  past_of : (w : ℕ) (marks : MarkList) (answers : List Tried) → 0 < w → (a : IsAccount s c w marks answers) → IsPast setup c r.entries w a.kept
   past_of w marks answers low a = g.closed.past w a.kept low a.is
 
   -- a place that a won note of the worker has
@@ -164,10 +164,10 @@ module _ (s : Scene) (about : About) (c : Chief) (r : RoundView) (stars : StarLi
       let few = t.account.done.few in
       omega (arith, same, long, numbers, few)
 
-  pub round_ok : (end : Space) → IsStarListOf end stars → RoundOk s r end
+  pub round_ok : (end : ComplexView) → IsStarListOf end stars → RoundOk s r end
   round_ok end e = record {
     round_is = g.round_is;
-    replays = ap (λ (k : Space). replay k (flat r.entries)) (sym g.board.start) ∙ g.closed.replays ∙ ap Some (one_complex g.closed.now end stars g.closed.stars_are e);
+    replays = ap (λ (k : ComplexView). replay k (flat r.entries)) (sym g.board.start) ∙ g.closed.replays ∙ ap Some (one_complex g.closed.now end stars g.closed.stars_are e);
     tries = g.tries;
     marks = g.marks;
     workers = λ w marks answers low m t. worker_ok w marks answers low (g.accounts w marks answers low m t);

@@ -3,15 +3,15 @@ use Rattle.std.specs.Prelude.{◌≡◌, ◌≢◌, ◌⊎◌, ℕ, ◌+◌, ◌
 use Rattle.std.specs.List.{AllByRecursion}
 use mathlib.Core.Option.{some}
 use lib.ListN.{get_elem?}
-use Rattle.complex_core.specs.Spaces.{Space, IsComplex}
+use Rattle.complex_core.specs.Complexes.{ComplexView, IsComplex}
 use Rattle.flip_rules.specs.Entries.{JournalEntry}
 use Rattle.flip_rules.specs.Journals.{At}
 use Rattle.flip_rules.specs.declared.flip.Flip.{Flip}
 use Rattle.stars.specs.StarViews.{StarList, IsStarListOf, UsesUpTo}
 use Rattle.anneal_plan.specs.Proposals.{allowed_of}
-use Rattle.board_rule.specs.declared.about.About.{About}
+use Rattle.board_rule.specs.declared.setup.Setup.{Setup}
 use Rattle.board_rule.specs.declared.kept.Kept.{Kept}
-use Rattle.board_rule.specs.declared.view.Chief.{Chief}
+use Rattle.board_rule.specs.declared.view.MainView.{MainView}
 use Rattle.board_rule.specs.Tries.{Unrefused}
 use Rattle.vertex_claims.specs.Ended.{IsEnd}
 use Rattle.vertex_claims.specs.MarkLists.{MarkList}
@@ -26,15 +26,15 @@ use Rattle.round_rules.specs.declared.tried.Tried.{Tried}
 use Rattle.round_rules.specs.declared.tried.Tried.TheVariants.{Committed, Quit, NoMemory}
 
 -- the board was that of the round
-pub record IsBoardOf (s : Scene) (about : About) (c : Chief) : Type 0 where
-  pub start : about.start.value ≡ s.start
+pub record IsBoardOf (s : Scene) (setup : Setup) (c : MainView) : Type 0 where
+  pub start : setup.start.value ≡ s.start
   pub complex : IsComplex s.start
-  pub places : about.places ≡ s.places
-  pub round_is : about.round ≡ s.round
+  pub places : setup.places ≡ s.places
+  pub round_is : setup.round ≡ s.round
   pub workers : length c.back ≡ s.plan.workers + 1
 
 -- what main kept of a worker, and what the worker says of its own tries
-pub record IsAccount (s : Scene) (c : Chief) (w : ℕ) (marks : MarkList) (answers : List Tried) : Type 0 where
+pub record IsAccount (s : Scene) (c : MainView) (w : ℕ) (marks : MarkList) (answers : List Tried) : Type 0 where
   pub kept : Kept
   pub is : get_elem? c.back w ≡ some kept
   pub worker : marks.worker ≡ w
@@ -45,9 +45,9 @@ pub record IsAccount (s : Scene) (c : Chief) (w : ℕ) (marks : MarkList) (answe
   pub told : AllByRecursion (λ a. a ≢ NoMemory) answers
 
 -- what is known of a round when its board was closed
-pub record IsGathered (s : Scene) (about : About) (c : Chief) (r : RoundView) (stars : StarList) : Type 0 where
-  pub board : IsBoardOf s about c
-  pub closed : IsEnd about c r.entries stars
+pub record IsGathered (s : Scene) (setup : Setup) (c : MainView) (r : RoundView) (stars : StarList) : Type 0 where
+  pub board : IsBoardOf s setup c
+  pub closed : IsEnd setup c r.entries stars
   pub round_is : r.round ≡ s.round
   pub tries : length r.tries ≡ s.plan.workers
   pub marks : length r.marks ≡ s.plan.workers
@@ -55,15 +55,15 @@ pub record IsGathered (s : Scene) (about : About) (c : Chief) (r : RoundView) (s
 
 -- then the round is right, and its end is the complex with the stars that the board had
 abbrev pub RoundLaw : Type 0
-RoundLaw = (s : Scene) (about : About) (c : Chief) (r : RoundView) (stars : StarList) (end : Space) → IsGathered s about c r stars → IsStarListOf end stars → RoundOk s r end
+RoundLaw = (s : Scene) (setup : Setup) (c : MainView) (r : RoundView) (stars : StarList) (end : ComplexView) → IsGathered s setup c r stars → IsStarListOf end stars → RoundOk s r end
 
 -- where a right round starts with a complex on its places, its end is one too, of the same dimension
 abbrev pub RoundReplays : Type 0
-RoundReplays = (s : Scene) (r : RoundView) (end : Space) → IsComplex s.start → UsesUpTo s.start s.places → RoundOk s r end → IsComplex end × (end.dim ≡ s.start.dim) × UsesUpTo end s.places
+RoundReplays = (s : Scene) (r : RoundView) (end : ComplexView) → IsComplex s.start → UsesUpTo s.start s.places → RoundOk s r end → IsComplex end × (end.dim ≡ s.start.dim) × UsesUpTo end s.places
 
 -- it has at most so many facets more as the dimension, for each entry
 abbrev pub RoundGrows : Type 0
-RoundGrows = (s : Scene) (r : RoundView) (end : Space) → IsComplex s.start → RoundOk s r end → length end.facets ≤ length s.start.facets + s.start.dim * length r.entries
+RoundGrows = (s : Scene) (r : RoundView) (end : ComplexView) → IsComplex s.start → RoundOk s r end → length end.facets ≤ length s.start.facets + s.start.dim * length r.entries
 
 -- a try that won its place, of which no later claim was refused, with flips that its phase allows and of which none is blocked after any such beginning, commits, unless it quits or wants memory
 abbrev pub TryCommits : Type 0

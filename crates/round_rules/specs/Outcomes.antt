@@ -1,7 +1,7 @@
 -- What a try may answer in a round, judged by its mark and by beginnings of the round's journal.
 use Rattle.std.specs.Prelude.{◌≡◌, ◌≢◌, ◌⊎◌, ℕ, suc, ◌+◌, ◌<◌, ◌≤◌, true, ℤ, ◌≤ℤ◌, ◌<ℤ◌, List, [], ◌∷◌, ◌++◌, length, Some, Err, ⊤}
-use Rattle.complex_core.specs.Spaces.{Space}
-use Rattle.flip_rules.specs.Flips.{why, replay}
+use Rattle.complex_core.specs.Complexes.{ComplexView}
+use Rattle.flip_rules.specs.Flips.{broken_rule, replay}
 use Rattle.flip_rules.specs.Entries.{JournalEntry}
 use Rattle.flip_rules.specs.Journals.{flat, mine, touches, At}
 use Rattle.flip_rules.specs.declared.flip.Flip.{Flip}
@@ -24,7 +24,7 @@ star_at s p rows = record { vertex = p; dim = s.start.dim; rows = rows }
 -- ---- beginnings of the journal
 
 -- a beginning of the entries in which so many touch the place, and which has so many of the worker's
-pub record Such (s : Scene) (entries : List JournalEntry) (w earlier p version : ℕ) (before : List JournalEntry) : Type 0 where
+pub record Beginning (s : Scene) (entries : List JournalEntry) (w earlier p version : ℕ) (before : List JournalEntry) : Type 0 where
   pub next : List JournalEntry
   pub whole : entries ≡ before ++ next
   pub touched : touches before p ≡ version
@@ -33,9 +33,9 @@ pub record Such (s : Scene) (entries : List JournalEntry) (w earlier p version :
 -- after such a beginning the flips are legal in order
 pub record LegalAfter (s : Scene) (entries : List JournalEntry) (w earlier p version : ℕ) (flips : List Flip) : Type 0 where
   pub before : List JournalEntry
-  pub such : Such s entries w earlier p version before
-  pub there : Space
-  pub end : Space
+  pub beginning : Beginning s entries w earlier p version before
+  pub there : ComplexView
+  pub end : ComplexView
   pub history : replay s.start (flat before) ≡ Some there
   pub replays : replay there flips ≡ Some end
 
@@ -69,7 +69,7 @@ pub record BlockedRow (s : Scene) (entries : List JournalEntry) (w earlier versi
   pub rest : List Flip
   pub member : flips ≡ front ++ f ∷ rest
   pub legal : LegalAfter s entries w earlier m.place version front
-  pub face : why legal.end f.a f.b ≡ Err BIsFace
+  pub face : broken_rule legal.end f.a f.b ≡ Err BIsFace
   pub unrefused : Unrefused m.vertices m.journal
 
 -- the flips are legal, and make too many facets
@@ -87,7 +87,7 @@ pub record CommittedRow (s : Scene) (entries : List JournalEntry) (w : ℕ) (tas
   pub before : List JournalEntry
   pub next : List JournalEntry
   pub whole : entries ≡ before ++ (record { round = s.round; worker = w; seq = number; flips = flips } ∷ next)
-  pub such : Such s entries w earlier m.place version before
+  pub beginning : Beginning s entries w earlier m.place version before
   pub vertices : m.vertices ≡ 0
   pub journal : m.journal < 64
 
@@ -120,7 +120,7 @@ pub record WonRow (s : Scene) (entries : List JournalEntry) (w : ℕ) (task : Ta
   pub rows : List (List ℕ)
   pub at : At s.start entries m.place version rows
   pub before : List JournalEntry
-  pub such : Such s entries w earlier m.place version before
+  pub beginning : Beginning s entries w earlier m.place version before
   pub idle : turns_of task (star_at s m.place rows) ≡ [] → Idle a
   pub row : Row s entries w task earlier version m (turns_of task (star_at s m.place rows)) a
 

@@ -1,8 +1,8 @@
 -- What a worker says of one of its own tries, by the note that the pass keeps of it.
 use Rattle.std.specs.Prelude.{◌≡◌, ◌≢◌, ◌⊎◌, ℕ, ◌<◌, true, false, ℤ, ◌≤ℤ◌, ◌<ℤ◌, List, [], ◌∷◌, ◌++◌, length, Err, Some}
 use mathlib.Core.Option.{some}
-use Rattle.complex_core.specs.Spaces.{Space, IsComplex}
-use Rattle.flip_rules.specs.Flips.{why, replay}
+use Rattle.complex_core.specs.Complexes.{ComplexView, IsComplex}
+use Rattle.flip_rules.specs.Flips.{broken_rule, replay}
 use Rattle.flip_rules.specs.Entries.{JournalEntry}
 use Rattle.flip_rules.specs.declared.flip.Flip.{Flip}
 use Rattle.flip_rules.specs.declared.flip.Illegal.TheVariants.{BIsFace}
@@ -11,22 +11,22 @@ use Rattle.board_rule.specs.Items.{item, has_item}
 use Rattle.board_rule.specs.Plays.{IsRefused}
 use Rattle.board_rule.specs.Tries.{Try, Unrefused}
 use Rattle.board_rule.specs.Views.{star_in}
-use Rattle.board_rule.specs.declared.data.Home.{Home}
+use Rattle.board_rule.specs.declared.data.VersionedStar.{VersionedStar}
 use Rattle.anneal_plan.specs.Proposals.{allowed_of}
 use Rattle.round_rules.specs.Tasks.{Task, place_of, turns_of, changes}
 use Rattle.round_rules.specs.declared.tried.Tried.{Tried}
 use Rattle.round_rules.specs.declared.tried.Tried.TheVariants.{Committed, Busy, Nothing, Blocked, Declined, Quit, NoMemory}
 
 -- a complex of this dimension that has the noted stars
-pub record HasStars (d : ℕ) (note : List (ℕ × Home)) (k : Space) : Type 0 where
+pub record HasStars (d : ℕ) (note : List (ℕ × VersionedStar)) (k : ComplexView) : Type 0 where
   pub complex : IsComplex k
   pub dim : k.dim ≡ d
-  pub stars : (p : ℕ) (x : Home) → item note p ≡ some x → x.star ≡ star_in k p
+  pub stars : (p : ℕ) (x : VersionedStar) → item note p ≡ some x → x.star ≡ star_in k p
 
 -- on the noted stars the flips are legal in order: their labels are noted, and they replay on a complex that has these stars
-pub record ReplaysOn (d : ℕ) (note : List (ℕ × Home)) (flips : List Flip) : Type 0 where
-  pub complex : Space
-  pub end : Space
+pub record ReplaysOn (d : ℕ) (note : List (ℕ × VersionedStar)) (flips : List Flip) : Type 0 where
+  pub complex : ComplexView
+  pub end : ComplexView
   pub stars : HasStars d note complex
   pub labels : LabelsPass (has_item note) flips
   pub replays : replay complex flips ≡ Some end
@@ -61,7 +61,7 @@ pub record BlockedOwn (task : Task) (t : Try) (f : Flip) (flips : List Flip) : T
   pub member : flips ≡ before ++ f ∷ next
   pub legal : ReplaysOn task.dim t.note before
   pub labels : LabelsPass (has_item t.note) (f ∷ [])
-  pub face : why legal.end f.a f.b ≡ Err BIsFace
+  pub face : broken_rule legal.end f.a f.b ≡ Err BIsFace
   pub unrefused : Unrefused t.vertices t.journal
 
 -- the flips are legal, and make too many facets
@@ -103,7 +103,7 @@ OwnRow task round w t was now flips NoMemory = WantedOwn task t flips × (now �
 
 -- a try whose first claim was won, at a star with a version: what it noted beside its own place are labels of its flips
 pub record WonOwn (task : Task) (round w : ℕ) (t : Try) (was now : List JournalEntry) (a : Tried) : Type 0 where
-  pub home : Home
+  pub home : VersionedStar
   pub first : item t.note t.place ≡ some home
   pub version : home.version ≡ t.found
   pub among : (q : ℕ) → has_item t.note q ≡ true → (q ≡ t.place) ⊎ (flips_touch q (turns_of task home.star) ≡ true)

@@ -3,7 +3,7 @@ use Rattle.std.specs.Prelude.{◌≡◌, ◌≢◌, ◌⊎◌, ℕ, ◌+◌, ◌
 use Rattle.std.specs.List.{AllByRecursion}
 use mathlib.Core.Option.{some}
 use lib.ListN.{get_elem?}
-use Rattle.complex_core.specs.Spaces.{Space}
+use Rattle.complex_core.specs.Complexes.{ComplexView}
 use Rattle.flip_rules.specs.Flips.{replay}
 use Rattle.flip_rules.specs.Entries.{JournalEntry}
 use Rattle.flip_rules.specs.Journals.{flat, mine, At}
@@ -59,7 +59,7 @@ pub record WorkerOk (s : Scene) (r : RoundView) (w : ℕ) (marks : MarkList) (an
   pub count : CountUp (numbers_in answers)
 
 -- a round from a complex to another one
-pub record RoundOk (s : Scene) (r : RoundView) (end : Space) : Type 0 where
+pub record RoundOk (s : Scene) (r : RoundView) (end : ComplexView) : Type 0 where
   pub round_is : r.round ≡ s.round
   -- the flips of its entries, in order, are each legal where they stand, and lead to the end
   pub replays : replay s.start (flat r.entries) ≡ Some end

@@ -1,6 +1,6 @@
 -- What a try is told, and the flips that it proposes.
 use Rattle.std.specs.Prelude.{ℕ, ◌-◌, ◌*◌, ◌%◌, ℤ, pos, ◌+ℤ◌, ◌-ℤ◌, List, [], ◌∷◌, length, slice_index}
-use Rattle.complex_core.specs.Spaces.{Space}
+use Rattle.complex_core.specs.Complexes.{ComplexView}
 use Rattle.complex_core.specs.Maps.{used}
 use Rattle.flip_rules.specs.declared.flip.Flip.{Flip}
 use Rattle.stars.specs.StarViews.{VertexStar}
@@ -41,7 +41,7 @@ changes d (f ∷ fs) = change d f +ℤ changes d fs
 
 -- a round: the complex that it starts with, its greatest place, its number, and the numbers of the plan
 pub record Scene : Type 0 where
-  pub start : Space
+  pub start : ComplexView
   pub places : ℕ
   pub round : ℕ
   pub plan : Numbers

@@ -6,7 +6,7 @@ use Rattle.std.specs.Cmp.Derive.{both_true}
 use Rattle.std.proofs.lemmas.List.Folds.{list_all-append}
 use Rattle.complex_core.specs.Labels.{IsRising, has}
 use Rattle.complex_core.specs.Maps.{ArePositive, IsMap, takes, names_of, numbered, next_after, used, greatest}
-use Rattle.complex_core.specs.Spaces.{Space}
+use Rattle.complex_core.specs.Complexes.{ComplexView}
 use Rattle.std.proofs.lemmas.Cmp.{nat_cmp_total}
 use Rattle.complex_core.proofs.Sets.{Above, above_cons, sorted_rising}
 use Rattle.complex_core.proofs.Faces.{cmp_less}
@@ -74,29 +74,29 @@ places_few fs room m h e few =
     omega (arith, ap length e, length_numbered 1 (used fs ++ spare), length-append (used fs) spare, length_next (greatest (used fs)) room, few_used (used fs) rises, few)
 
 -- no label above their number
-pub uses_places : (m : List (ℕ × ℕ)) (k : Space) → NamesPlaces m → Renames m k → UsesUpTo k (length m)
+pub uses_places : (m : List (ℕ × ℕ)) (k : ComplexView) → NamesPlaces m → Renames m k → UsesUpTo k (length m)
 uses_places m k n r = uses_from k (length m) (λ f p t e. n.most p (passes_has (takes m) f p (passes_listed (λ s. list_all (takes m) s) k.facets f r.taken t) e))
 
 -- ---- flips
 
 -- what flips keep
-pub record IsNamed (m : List (ℕ × ℕ)) (k : Space) (flips : List Flip) (end : Space) : Type 0 where
+pub record IsNamed (m : List (ℕ × ℕ)) (k : ComplexView) (flips : List Flip) (end : ComplexView) : Type 0 where
   pub taken : takes_flips m flips ≡ true
   pub end_named : Renames m end
   pub dim : end.dim ≡ k.dim
 
-named_replay : (m : List (ℕ × ℕ)) (k end : Space) (flips : List Flip) → Renames m k → AllByRecursion OfFaces flips → takes_flips m flips ≡ true → replay k flips ≡ Some end → IsNamed m k flips end
+named_replay : (m : List (ℕ × ℕ)) (k end : ComplexView) (flips : List Flip) → Renames m k → AllByRecursion OfFaces flips → takes_flips m flips ≡ true → replay k flips ≡ Some end → IsNamed m k flips end
 named_replay m k end flips r faces t e = record {
   taken = t;
   end_named = replay_stays_taken m k end flips (record { complex = r; faces = faces; taken = t }) e;
   dim = replay_dim k end flips e;
 }
 
-positive : (flips : List Flip) (k end : Space) → IsDescent k flips end → AllByRecursion HasPositiveIndex flips
+positive : (flips : List Flip) (k end : ComplexView) → IsDescent k flips end → AllByRecursion HasPositiveIndex flips
 positive [] k end d = tt
 positive (f ∷ fs) k end d = (two_at_least k f d.0.reduces, positive fs (flipped k f.a f.b) end d.1)
 
-descent_named : (m : List (ℕ × ℕ)) (k end : Space) (flips : List Flip) → Renames m k → IsDescent k flips end → IsNamed m k flips end
+descent_named : (m : List (ℕ × ℕ)) (k end : ComplexView) (flips : List Flip) → Renames m k → IsDescent k flips end → IsNamed m k flips end
 descent_named m k end flips r d =
     let s : Descends k flips end = descent_descends k end flips d in
     named_replay m k end flips r s.faces (reducing_flips_taken m k end flips r.taken s.faces (positive flips k end d) s.replays) s.replays
@@ -119,20 +119,20 @@ entries_taken : (m : List (ℕ × ℕ)) (round seats : ℕ) (es : List JournalEn
 entries_taken m round seats [] n h = refl
 entries_taken m round seats (e ∷ es) n h = passes_append (takes_flip m) e.flips (flat es) (flips_taken m e.flips n h.0.faces h.0.labels) (entries_taken m round seats es n h.1)
 
-round_named : (m : List (ℕ × ℕ)) (plan : Numbers) (round : ℕ) (k end : Space) (r : RoundView) → NamesPlaces m → Renames m k → RoundOk (scene k (length m) round plan) r end → IsNamed m k (flat r.entries) end
+round_named : (m : List (ℕ × ℕ)) (plan : Numbers) (round : ℕ) (k end : ComplexView) (r : RoundView) → NamesPlaces m → Renames m k → RoundOk (scene k (length m) round plan) r end → IsNamed m k (flat r.entries) end
 round_named m plan round k end r n named_k h =
     named_replay m k end (flat r.entries) named_k (faces_in _ _ _ r.entries h.entries) (entries_taken m _ _ r.entries n h.entries) h.replays
 
 -- ---- chains
 
-pub chain_named : (m : List (ℕ × ℕ)) (plan : Numbers) (n : ℕ) (k : Space) (ds : List (List Flip)) (lows : List Space) (rs : List RoundView) (end : Space) → NamesPlaces m → Renames m k → Chain plan (length m) n k ds lows rs end → IsNamed m k (flat (history_from n ds rs)) end
-chain_named m plan n k [] [] [] end np r c = let P : Space → Type 0 = λ l. Renames m l in record { taken = refl; end_named = subst P (sym c) r; dim = ap (λ l. l.dim) c }
+pub chain_named : (m : List (ℕ × ℕ)) (plan : Numbers) (n : ℕ) (k : ComplexView) (ds : List (List Flip)) (lows : List ComplexView) (rs : List RoundView) (end : ComplexView) → NamesPlaces m → Renames m k → Chain plan (length m) n k ds lows rs end → IsNamed m k (flat (history_from n ds rs)) end
+chain_named m plan n k [] [] [] end np r c = let P : ComplexView → Type 0 = λ l. Renames m l in record { taken = refl; end_named = subst P (sym c) r; dim = ap (λ l. l.dim) c }
 chain_named m plan n k [] [] (q ∷ rs) end np r c = absurd c
 chain_named m plan n k [] (low ∷ lows) rs end np r c = absurd c
 chain_named m plan n k (d ∷ ds) [] rs end np r c = absurd c
 chain_named m plan n k (d ∷ ds) (low ∷ lows) [] end np r c =
     let h : IsNamed m k d low = descent_named m k low d r c.0 in
-    let P : Space → Type 0 = λ l. Renames m l in
+    let P : ComplexView → Type 0 = λ l. Renames m l in
     let none : flat (history_from (n + 1) ds []) ≡ [] = ap (λ xs. flat (history_from (n + 1) xs [])) c.2 in
     let flips : flat (descent_entries n 0 d ++ history_from (n + 1) ds []) ≡ d ++ [] = flat-append (descent_entries n 0 d) (history_from (n + 1) ds []) ∙ (λ i. flat_descent n 0 d i ++ none i) in
     record {

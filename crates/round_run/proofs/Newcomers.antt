@@ -4,13 +4,13 @@ use Rattle.std.specs.List.{AllByRecursion, flat_map}
 use Rattle.std.specs.Ordering.{nat_cmp}
 use Rattle.std.specs.declared.cmp.Ordering.TheVariants.{Less}
 use Rattle.complex_core.specs.Labels.{has}
-use Rattle.complex_core.specs.Spaces.{Space, IsComplex, IsFacet}
+use Rattle.complex_core.specs.Complexes.{ComplexView, IsComplex, IsFacet}
 use Rattle.complex_core.specs.Maps.{used, next_after}
 use Rattle.complex_core.proofs.Faces.{less_cmp}
 use Rattle.complex_core.proofs.Sets.{each_rising, some_rising}
 use Rattle.stars.specs.StarViews.{UsesUpTo}
 use Rattle.board_rule.specs.Views.{newcomer}
-use Rattle.board_rule.specs.declared.view.Hand.{Hand}
+use Rattle.board_rule.specs.declared.view.PassView.{PassView}
 use Rattle.vertex_claims.specs.Passes.{IsOf, IsTold, know, limit, start_of, places_on}
 use Rattle.vertex_claims.specs.declared.board.Board.{Board}
 use Rattle.vertex_claims.specs.declared.pass.Pass.{Pass}
@@ -30,7 +30,7 @@ first_label : (d : ℕ) (facets : List (List ℕ)) → 0 < length facets → All
 first_label d [] some h = absurd (omega (arith, some))
 first_label d (f ∷ fs) some h = let one = h.0.size in omega (arith, one, length-append f (flat_map (λ g. g) fs))
 
-pub some_live : (k : Space) → IsComplex k → 0 < length (used k.facets)
+pub some_live : (k : ComplexView) → IsComplex k → 0 < length (used k.facets)
 some_live k h = some_rising nat_cmp (flat_map (λ f. f) k.facets) (first_label k.dim k.facets h.some h.pure)
 
 -- its labels are places
@@ -38,7 +38,7 @@ both : (n : ℕ) (xs : List ℕ) → AllByRecursion (λ y. nat_cmp 0 y ≡ Less)
 both n [] low high = tt
 both n (x ∷ xs) low high = ((less_cmp 0 x low.0, high.0), both n xs low.1 high.1)
 
-pub live_places : (k : Space) (n : ℕ) → IsComplex k → UsesUpTo k n → ArePlaces (used k.facets) n
+pub live_places : (k : ComplexView) (n : ℕ) → IsComplex k → UsesUpTo k n → ArePlaces (used k.facets) n
 live_places k n h within = both n (used k.facets) (each_rising nat_cmp (λ y. nat_cmp 0 y ≡ Less) (flat_map (λ f. f) k.facets) (labels_above k.dim k.facets h.pure)) within
 
 -- and so are those that it hasn't
@@ -59,10 +59,10 @@ module _ (s : Scene) (board : Board) where
       → IsOf pass board → know pass ≡ newcomer (start_of board) (places_on board) (old + 1) → limit pass ≡ s.plan.tries → live ≡ used s.start.facets → free ≡ free_of s.start.facets s.places
       → pass_of a ≡ pass → plan_of a ≡ s.plan → round_in a ≡ s.round → live_of a ≡ live → free_to a ≡ free → answers_of a ≡ [] → IsNew s board (old + 1) a
   newly old pass live free a told complex dim within of_board fresh most live_is free_is pass_is plan_is round_is lives frees none =
-      let hand : know (pass_of a) ≡ newcomer (start_of board) (places_on board) (old + 1) = ap know pass_is ∙ fresh in
-      let start : Space = s.start in
+      let pass_view : know (pass_of a) ≡ newcomer (start_of board) (places_on board) (old + 1) = ap know pass_is ∙ fresh in
+      let start : ComplexView = s.start in
       let k : IsComplex s.start = subst IsComplex told.start_is complex in
-      let tries = ap (λ (h : Hand). length h.tries) hand in
+      let tries = ap (λ (h : PassView). length h.tries) pass_view in
       let limits = ap limit pass_is in
       let plan = ap (λ (n : Numbers). n.tries) plan_is in
       let live_all : live_of a ≡ used s.start.facets = lives ∙ live_is in
@@ -71,18 +71,18 @@ module _ (s : Scene) (board : Board) where
         ready = record {
           works = record {
             of_board = subst (λ (p : Pass). IsOf p board) (sym pass_is) of_board;
-            start = ap (λ (h : Hand). h.start) hand;
-            places = ap (λ (h : Hand). h.places) hand;
+            start = ap (λ (h : PassView). h.start) pass_view;
+            places = ap (λ (h : PassView). h.places) pass_view;
             live = subst (λ (xs : List ℕ). ArePlaces xs (places_on board)) (sym live_all) (subst (ArePlaces (used s.start.facets)) (sym told.places_are) (live_places s.start s.places k within));
             free = subst (λ (xs : List ℕ). ArePlaces xs (places_on board)) (sym free_all) (subst (ArePlaces (free_of s.start.facets s.places)) (sym told.places_are) (free_places s.start.facets s.places));
-            dim = subst (λ (m : Space). 1 ≤ m.dim) (sym told.start_is) dim;
+            dim = subst (λ (m : ComplexView). 1 ≤ m.dim) (sym told.start_is) dim;
           };
           room = omega (arith, tries, limits, plan, most);
           answers = none;
-          tries = ap (λ (h : Hand). h.tries) hand;
-          mine = ap (λ (h : Hand). h.mine) hand;
+          tries = ap (λ (h : PassView). h.tries) pass_view;
+          mine = ap (λ (h : PassView). h.mine) pass_view;
         };
-        number = ap (λ (h : Hand). h.worker) hand;
+        number = ap (λ (h : PassView). h.worker) pass_view;
         plan = plan_is;
         round_is = round_is;
         live = live_all;

@@ -2,10 +2,10 @@
 use Rattle.std.proofs.Common.{◌≡◌, ℕ, zero, suc, ◌+◌, ◌≤◌, List, [], ◌∷◌, length, refl, sym, ◌∙◌, ap, subst, arith, Result, Ok, Err, IfOk}
 use mathlib.Core.Option.{some, some-injective}
 use lib.ListN.{get_elem?}
-use Rattle.board_rule.specs.declared.view.Chief.{Chief}
+use Rattle.board_rule.specs.declared.view.MainView.{MainView}
 use Rattle.vertex_claims.specs.MarkLists.{MarkList}
 use Rattle.vertex_claims.specs.declared.board.Board.{Board}
-use Rattle.complex_core.specs.Spaces.{Space}
+use Rattle.complex_core.specs.Complexes.{ComplexView}
 use Rattle.round_rules.specs.Accounts.{quits}
 use Rattle.round_rules.specs.Rounds.{RoundView}
 use Rattle.round_rules.specs.declared.tried.Tried.{Tried}
@@ -34,7 +34,7 @@ module _ {A : Type 0} (count : A → ℕ) where
   }
 
   -- those of workers that ran said at least as often as their workers quit
-  pub rise_ran : (board : Board) (c : Chief) (w : ℕ) (was now : List Worker) (gs hs : List A) (ms : List MarkList) (ts : List (List Tried)) → HaveRun count board was now gs hs → AreSettled board c w now ms ts → Rise count gs hs (quits_at ts)
+  pub rise_ran : (board : Board) (c : MainView) (w : ℕ) (was now : List Worker) (gs hs : List A) (ms : List MarkList) (ts : List (List Tried)) → HaveRun count board was now gs hs → AreSettled board c w now ms ts → Rise count gs hs (quits_at ts)
   rise_ran board c w [] [] gs hs [] [] r s = at_rest gs hs (quits_at []) r (λ i. refl)
   rise_ran board c w [] [] gs hs [] (t ∷ ts) r s = absurd s
   rise_ran board c w [] [] gs hs (m ∷ ms) ts r s = absurd s
@@ -49,7 +49,7 @@ module _ {A : Type 0} (count : A → ℕ) where
       let answers = ap quits s.0.answers_are in
       rise_more g h gs hs (quits_at (t ∷ ts)) (omega (arith, one, answers)) (rise_ran board c (w + 1) rest bs gs hs ms ts r.1 s.1)
 
-  pub rise_if : {E : Type 0} (board : Board) (c : Chief) (was now : List Worker) (gs hs : List A) (ms : List MarkList) (ts : List (List Tried)) (r : Result (RoundView × Space) E) → HaveRun count board was now gs hs → AreSettled board c 1 now ms ts → IfOk r (λ x. (x.0.tries ≡ ts) × (x.0.marks ≡ ms)) → IfOk r (λ x. Rise count gs hs (quits_at x.0.tries))
+  pub rise_if : {E : Type 0} (board : Board) (c : MainView) (was now : List Worker) (gs hs : List A) (ms : List MarkList) (ts : List (List Tried)) (r : Result (RoundView × ComplexView) E) → HaveRun count board was now gs hs → AreSettled board c 1 now ms ts → IfOk r (λ x. (x.0.tries ≡ ts) × (x.0.marks ≡ ms)) → IfOk r (λ x. Rise count gs hs (quits_at x.0.tries))
   rise_if board c was now gs hs ms ts (Err e) ran settled t = tt
   rise_if board c was now gs hs ms ts (Ok x) ran settled t = subst (λ (l : List (List Tried)). Rise count gs hs (quits_at l)) (sym t.0) (rise_ran board c 1 was now gs hs ms ts ran settled)
 

@@ -3,14 +3,14 @@ use Rattle.std.specs.Prelude.{◌≡◌, ◌≢◌, ℕ, ◌+◌, ◌≤◌, tru
 use Rattle.std.specs.List.{AllByRecursion}
 use mathlib.Core.Option.{some}
 use lib.ListN.{get_elem?}
-use Rattle.complex_core.specs.Spaces.{Space}
+use Rattle.complex_core.specs.Complexes.{ComplexView}
 use Rattle.complex_core.specs.Maps.{used}
 use Rattle.flip_rules.specs.Entries.{JournalEntry}
 use Rattle.stars.specs.StarViews.{StarList, IsStarListOf}
 use Rattle.anneal_plan.specs.Places.{free_of}
 use Rattle.board_rule.specs.Views.{kept}
-use Rattle.board_rule.specs.declared.about.About.{About}
-use Rattle.board_rule.specs.declared.view.Chief.{Chief}
+use Rattle.board_rule.specs.declared.setup.Setup.{Setup}
+use Rattle.board_rule.specs.declared.view.MainView.{MainView}
 use Rattle.vertex_claims.specs.Ended.{IsEnd}
 use Rattle.vertex_claims.specs.MarkLists.{MarkList}
 use Rattle.vertex_claims.specs.Marks.{marks_of}
@@ -80,7 +80,7 @@ abbrev pub NoneWanted : List Tried → Type 0
 NoneWanted answers = AllByRecursion (λ a. a ≢ NoMemory) answers
 
 -- worker w was taken back: main keeps its entries and tries, and these are its marks and answers
-pub record IsSettled (board : Board) (c : Chief) (w : ℕ) (a : Worker) (marks : MarkList) (answers : List Tried) : Type 0 where
+pub record IsSettled (board : Board) (c : MainView) (w : ℕ) (a : Worker) (marks : MarkList) (answers : List Tried) : Type 0 where
   pub kept_is : get_elem? c.back w ≡ some (kept true (mine_of a) (tries_of a))
   pub worker : marks.worker ≡ w
   pub round_is : marks.round ≡ round_of board
@@ -89,7 +89,7 @@ pub record IsSettled (board : Board) (c : Chief) (w : ℕ) (a : Worker) (marks :
   pub told : NoneWanted answers
 
 -- they were taken back, from worker w on
-abbrev pub AreSettled : Board → Chief → ℕ → List Worker → List MarkList → List (List Tried) → Type 0
+abbrev pub AreSettled : Board → MainView → ℕ → List Worker → List MarkList → List (List Tried) → Type 0
 AreSettled board c w [] [] [] = ⊤
 AreSettled board c w [] [] (t ∷ ts) = ⊥
 AreSettled board c w [] (m ∷ ms) ts = ⊥
@@ -98,7 +98,7 @@ AreSettled board c w (a ∷ rest) (m ∷ ms) [] = ⊥
 AreSettled board c w (a ∷ rest) (m ∷ ms) (t ∷ ts) = IsSettled board c w a m t × AreSettled board c (w + 1) rest ms ts
 
 -- the board was closed with these entries, and this complex has the stars that were left
-pub record HasClosed (about : About) (c : Chief) (entries : List JournalEntry) (end : Space) : Type 0 where
+pub record HasClosed (setup : Setup) (c : MainView) (entries : List JournalEntry) (end : ComplexView) : Type 0 where
   pub stars : StarList
-  pub closed : IsEnd about c entries stars
+  pub closed : IsEnd setup c entries stars
   pub end_is : IsStarListOf end stars

@@ -1,5 +1,5 @@
 -- What a search for a sphere found.
-use Rattle.complex_core.specs.Spaces.{Space}
+use Rattle.complex_core.specs.Complexes.{ComplexView}
 use Rattle.anneal_plan.specs.Numbers.{Numbers}
 use Rattle.round_run.specs.Reports.{ReportView, IsSphere, IsUndecided}
 use Rattle.round_run.specs.declared.search.SphereFound.{SphereFound}
@@ -11,6 +11,6 @@ report_of (Sphere r) = r
 report_of (Undecided r) = r
 
 -- a sphere exactly where the last descent was the first that ended in the boundary of a simplex, and undecided exactly where all rounds were made and none did
-abbrev pub IsFound : Space → Numbers → SphereFound → Type 0
+abbrev pub IsFound : ComplexView → Numbers → SphereFound → Type 0
 IsFound given plan (Sphere r) = IsSphere given plan r
 IsFound given plan (Undecided r) = IsUndecided given plan r

@@ -2,7 +2,7 @@
 use Rattle.std.specs.Prelude.{◌≡◌, ℕ, ◌+◌, ◌≤◌, List, [], ◌∷◌, ◌++◌, length}
 use Rattle.std.specs.List.{AllByRecursion}
 use Rattle.complex_core.specs.Maps.{renamed, names_of, turned}
-use Rattle.complex_core.specs.Spaces.{Space}
+use Rattle.complex_core.specs.Complexes.{ComplexView}
 use Rattle.flip_rules.specs.Boundaries.{IsBoundary}
 use Rattle.flip_rules.specs.Entries.{JournalEntry}
 use Rattle.flip_rules.specs.declared.flip.Flip.{Flip}
@@ -13,31 +13,31 @@ use Rattle.round_rules.specs.Tasks.{Scene}
 
 -- what contracts see of a report: the complex as it was given, the labels that its places stand for, the descents and the records of the rounds on the places, and the complex on the places at the end
 pub record ReportView : Type 0 where
-  pub input : Space
+  pub input : ComplexView
   pub names : List (ℕ × ℕ)
   pub descents : List (List Flip)
   pub rounds : List RoundView
-  pub end : Space
+  pub end : ComplexView
 
-abbrev pub scene : Space → ℕ → ℕ → Numbers → Scene
+abbrev pub scene : ComplexView → ℕ → ℕ → Numbers → Scene
 scene start places round plan = record { start = start; places = places; round = round; plan = plan }
 
 -- descent, round, descent, .. from a complex to an end, where the first round has this number and the descents end in these complexes: there is one descent more than there are rounds, or there are neither
-abbrev pub Chain : Numbers → ℕ → ℕ → Space → List (List Flip) → List Space → List RoundView → Space → Type 0
+abbrev pub Chain : Numbers → ℕ → ℕ → ComplexView → List (List Flip) → List ComplexView → List RoundView → ComplexView → Type 0
 Chain plan places n k [] [] [] end = end ≡ k
 Chain plan places n k [] [] (r ∷ rs) end = ⊥
 Chain plan places n k [] (low ∷ lows) rs end = ⊥
 Chain plan places n k (d ∷ ds) [] rs end = ⊥
 Chain plan places n k (d ∷ ds) (low ∷ lows) [] end = IsDescent k d low × (end ≡ low) × (ds ≡ []) × (lows ≡ [])
-Chain plan places n k (d ∷ ds) (low ∷ lows) (r ∷ rs) end = (next : Space) × IsDescent k d low × RoundOk (scene low places n plan) r next × (length ds ≡ length rs + 1) × Chain plan places (n + 1) next ds lows rs end
+Chain plan places n k (d ∷ ds) (low ∷ lows) (r ∷ rs) end = (next : ComplexView) × IsDescent k d low × RoundOk (scene low places n plan) r next × (length ds ≡ length rs + 1) × Chain plan places (n + 1) next ds lows rs end
 
 -- the report of a search from this complex by this plan
-pub record ReportOk (given : Space) (plan : Numbers) (r : ReportView) : Type 0 where
+pub record ReportOk (given : ComplexView) (plan : Numbers) (r : ReportView) : Type 0 where
   pub input : r.input ≡ given
   pub names : r.names ≡ names_of given.facets plan.room
   pub few : length r.rounds ≤ plan.rounds
   -- the complexes in which the descents ended
-  pub lows : List Space
+  pub lows : List ComplexView
   pub chain : Chain plan (length r.names) 0 (renamed given (turned r.names)) r.descents lows r.rounds r.end
 
 -- ---- the history of a report
@@ -59,13 +59,13 @@ history r = history_from 0 r.descents r.rounds
 
 -- ---- what a sphere search found
 
-abbrev pub IsElsewhere : Space → Type 0
+abbrev pub IsElsewhere : ComplexView → Type 0
 IsElsewhere k = IsBoundary k → ⊥
 
 -- the last descent ended in the boundary of a simplex, and none before it
-pub record IsSphere (given : Space) (plan : Numbers) (r : ReportView) : Type 0 where
+pub record IsSphere (given : ComplexView) (plan : Numbers) (r : ReportView) : Type 0 where
   pub ok : ReportOk given plan r
-  pub earlier : List Space
+  pub earlier : List ComplexView
   pub ends : ok.lows ≡ earlier ++ r.end ∷ []
   pub boundary : IsBoundary r.end
   pub first : AllByRecursion IsElsewhere earlier
@@ -76,7 +76,7 @@ pub record IsSpent (plan : Numbers) (r : ReportView) : Type 0 where
   pub descents : length r.descents ≡ plan.rounds + 1
 
 -- all rounds were made, and no descent ended in the boundary of a simplex
-pub record IsUndecided (given : Space) (plan : Numbers) (r : ReportView) : Type 0 where
+pub record IsUndecided (given : ComplexView) (plan : Numbers) (r : ReportView) : Type 0 where
   pub ok : ReportOk given plan r
   pub spent : IsSpent plan r
   pub none : AllByRecursion IsElsewhere ok.lows

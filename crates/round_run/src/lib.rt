@@ -7,8 +7,8 @@
 //! and reports all of them.
 #![tactic(auto)]
 
-mod gathering;
-mod hiring;
+mod results;
+mod starting;
 mod record;
 mod report;
 mod round;

@@ -3,14 +3,14 @@
 ghost use Rattle.std.specs.Prelude.{◌≡◌, ◌≤◌, IfOk, length, map};
 ghost use Rattle.stars.specs.StarViews.{UsesUpTo};
 ghost use Rattle.board_rule.specs.Ends.{AllBack};
-ghost use Rattle.vertex_claims.specs.Passes.{IsMainOf, about_of, main_knows};
+ghost use Rattle.vertex_claims.specs.Passes.{IsMainOf, setup_of, main_knows};
 ghost use Rattle.round_rules.specs.Rounds.{RoundOk};
 ghost use Rattle.round_run.specs.Crews.{HasClosed};
 ghost use Rattle.round_run.specs.Gates.{Rise, quits_at};
 ghost use Rattle.round_run.specs.Reports.{scene};
 
-use crate::gathering::{Accounts, settle_all};
-use crate::hiring::hire_all;
+use crate::results::{Accounts, settle_all};
+use crate::starting::hire_all;
 use crate::record::RoundRecord;
 use crate::running::run_all;
 use anneal_plan::Plan;
@@ -31,7 +31,7 @@ fn close_round(
 ) -> Result<(RoundRecord, Complex), AllocError>
     requires main { IsMainOf main board }
     requires back { AllBack (main_knows main) }
-    ensures closed { IfOk result (λ r. HasClosed (about_of board) (main_knows main) r.0.entries r.1) }
+    ensures closed { IfOk result (λ r. HasClosed (setup_of board) (main_knows main) r.0.entries r.1) }
     ensures round { IfOk result (λ r. r.0.round ≡ round) }
     ensures accounts { IfOk result (λ r. (r.0.tries ≡ map (λ v. v.items) accounts.tries.items) × (r.0.marks ≡ accounts.marks.items)) }
 {

@@ -25,7 +25,7 @@ impl fmt::Display for Fault {
     fn fmt<W: fmt::Write>(&self, f: &mut fmt::Formatter<W>) -> fmt::Result {
         match self {
             Fault::Memory => write!(f, "no memory"),
-            Fault::Read(why) => write!(f, "{why}"),
+            Fault::Read(reason) => write!(f, "{reason}"),
             Fault::NoCases => write!(f, "no cases"),
             Fault::Line { number, wrong } => write!(f, "line {number}: {wrong}"),
         }

@@ -3,7 +3,7 @@ use Rattle.std.proofs.Common.{◌≡◌, ℕ, ◌<◌, ◌%◌, true, false, con
 use Rattle.std.specs.List.{AllByRecursion}
 use mathlib.Core.Option.{some, some-injective}
 use Rattle.complex_core.specs.Labels.{has}
-use Rattle.complex_core.specs.Spaces.{Space}
+use Rattle.complex_core.specs.Complexes.{ComplexView}
 use Rattle.complex_core.proofs.Laws.{nat_eq_same, or_left}
 use Rattle.flip_rules.specs.Flips.{replay, OfFaces}
 use Rattle.flip_rules.specs.Entries.{JournalEntry}
@@ -14,29 +14,29 @@ use Rattle.board_rule.specs.Items.{item, has_item}
 use Rattle.board_rule.specs.Plays.{Sees}
 use Rattle.board_rule.specs.Tries.{Try, won_try}
 use Rattle.board_rule.specs.Views.{home, star_in, Empty, opened_by}
-use Rattle.board_rule.specs.declared.data.Home.{Home as HomeOf}
+use Rattle.board_rule.specs.declared.data.VersionedStar.{VersionedStar}
 use Rattle.board_rule.specs.declared.data.Slot.TheVariants.{Home}
-use Rattle.board_rule.specs.declared.view.Hand.{Hand}
+use Rattle.board_rule.specs.declared.view.PassView.{PassView}
 use Rattle.board_rule.proofs.Items.{tested, off, has_some, item_front}
 use Rattle.vertex_claims.specs.Passes.{know, slot}
 use Rattle.vertex_claims.specs.declared.pass.Pass.{Pass}
-use Rattle.held_stars.specs.Holding.{Story, Noting, Going, Made, IsKnown}
+use Rattle.held_stars.specs.Holding.{StartedTry, Noting, Going, Made, IsKnown}
 use Rattle.held_stars.specs.declared.hold.Hold.{Hold}
 use Rattle.round_rules.specs.Own.{OwnTry, OwnRow, CommittedOwn}
 use Rattle.round_rules.specs.Tasks.{Task, turns_of}
 use Rattle.round_rules.specs.declared.tried.Tried.{Tried}
 use Rattle.round_rules.specs.declared.tried.Tried.TheVariants.{Committed, Busy, Nothing, Blocked, Declined, Quit, NoMemory}
-use Rattle.spec_worker.specs.declared.turning.Order.{Order}
-use Rattle.spec_worker.specs.Trying.{IsFit, IsTold, IsStoryOf, Turned, Ended, Entered, Why}
+use Rattle.spec_worker.specs.declared.turning.TryPlan.{TryPlan}
+use Rattle.spec_worker.specs.Trying.{IsFit, IsTold, IsStartOf, Turned, Ended, Entered, Cause}
 
 -- ---- what is told
 
 -- some task is told by an order that fits
-pub record Told (o : Order) (dim : ℕ) : Type 0 where
+pub record Told (o : TryPlan) (dim : ℕ) : Type 0 where
   pub task : Task
   pub told : IsTold o dim task
 
-pub some_told : (o : Order) (places dim : ℕ) → IsFit o places → Told o dim
+pub some_told : (o : TryPlan) (places dim : ℕ) → IsFit o places → Told o dim
 some_told o places dim fit = record {
   task = record { dim = dim; phase = o.phase; words = o.words.now; live = o.place ∷ []; free = o.free.now; depth = fit.depth.0 };
   told = record { dim_is = refl; place = ap (slice_index (o.place ∷ [])) (let e : slice_index o.words.now 0 % 1 ≡ 0 = omega arith in e); phase = refl; words = refl; free = refl; count = fit.depth.1 };
@@ -45,14 +45,14 @@ some_told o places dim fit = record {
 -- ---- the first claim was won
 
 -- a pass that holds nothing has no items
-pub no_items : (v : Hand) → Sees v → Empty v → v.items ≡ []
+pub no_items : (v : PassView) → Sees v → Empty v → v.items ≡ []
 no_items v s e = by v.items (λ q x at. (s.stars q x at).0) (λ q low. tested q 0 (λ t. cond t v.has_journal (has_item v.items q) ≡ false → has_item v.items q ≡ false) (λ z. absurd (omega (arith, low, z))) (λ _ h. h) (e q))
   where
-    by : (items : List (ℕ × HomeOf)) → ((q : ℕ) (x : HomeOf) → item items q ≡ some x → 0 < q) → ((q : ℕ) → 0 < q → has_item items q ≡ false) → items ≡ []
+    by : (items : List (ℕ × VersionedStar)) → ((q : ℕ) (x : VersionedStar) → item items q ≡ some x → 0 < q) → ((q : ℕ) → 0 < q → has_item items q ≡ false) → items ≡ []
     by [] low none_held = refl
     by (i ∷ items) low none_held = off (sym (none_held i.0 (low i.0 i.1 (item_front i.0 i.1 items))) ∙ has_some (i ∷ items) i.0 i.1 (item_front i.0 i.1 items))
 
-module _ (a b : Pass) (p : ℕ) (x : HomeOf) (k : Space) (known : know b ≡ opened_by (know a) p x k) where
+module _ (a b : Pass) (p : ℕ) (x : VersionedStar) (k : ComplexView) (known : know b ≡ opened_by (know a) p x k) where
   sees_now : Sees (opened_by (know a) p x k)
   sees_now = subst Sees known b.sees
 
@@ -60,62 +60,62 @@ module _ (a b : Pass) (p : ℕ) (x : HomeOf) (k : Space) (known : know b ≡ ope
   first_star = (sees_now.stars p x (item_front p x (know a).items)).1
 
 -- what is told, the story of the try, and that no turn was made
-pub record Begun (task : Task) (o : Order) (a b : Pass) (h : Hold) (dim : ℕ) : Type 0 where
-  pub story : Story
+pub record Begun (task : Task) (o : TryPlan) (a b : Pass) (h : Hold) (dim : ℕ) : Type 0 where
+  pub begun : StartedTry
   pub told : IsTold o dim task
-  pub of : IsStoryOf task story
-  pub turned : Turned story b h story.flips
-  pub worker : story.worker ≡ (know a).worker
-  pub earlier : story.earlier ≡ (know a).tries
-  pub mine : story.mine ≡ (know a).mine
+  pub of : IsStartOf task begun
+  pub turned : Turned begun b h begun.flips
+  pub worker : begun.worker ≡ (know a).worker
+  pub earlier : begun.earlier ≡ (know a).tries
+  pub mine : begun.mine ≡ (know a).mine
 
-only_place : (p q : ℕ) (x : HomeOf) → has_item ((p, x) ∷ []) q ≡ true → p ≡ q
+only_place : (p q : ℕ) (x : VersionedStar) → has_item ((p, x) ∷ []) q ≡ true → p ≡ q
 only_place p q x = tested p q (λ t. cond t true false ≡ true → p ≡ q) (λ e _. e) (λ _ h. off h)
 
-pub begun : (task : Task) (o : Order) (a b : Pass) (h : Hold) (dim : ℕ) (x : HomeOf) (k : Space) → IsTold o (know a).start.dim task → Empty (know a) → know b ≡ opened_by (know a) o.place x k → slot b o.place ≡ some (Home x) → dim ≡ (know a).start.dim
-    → h.places.items ≡ o.place ∷ [] → h.flips.items ≡ [] → h.copies.items ≡ [] → h.near.items ≡ [] → Begun task o a b h dim
-begun task o a b h dim x k told empty known at is places flips copies near =
+pub begun : (task : Task) (o : TryPlan) (a b : Pass) (h : Hold) (dim : ℕ) (x : VersionedStar) (k : ComplexView) → IsTold o (know a).start.dim task → Empty (know a) → know b ≡ opened_by (know a) o.place x k → slot b o.place ≡ some (Home x) → dim ≡ (know a).start.dim
+    → h.places.items ≡ o.place ∷ [] → h.flips.items ≡ [] → h.copies.items ≡ [] → h.lent.items ≡ [] → Begun task o a b h dim
+begun task o a b h dim x k told empty known at is places flips copies lent =
     let p = o.place in
     let v = know a in
-    let story : Story = record { place = p; flips = turns_of task x.star; home = x; dim = v.start.dim; worker = v.worker; earlier = v.tries; mine = v.mine } in
+    let begun : StartedTry = record { place = p; flips = turns_of task x.star; home = x; dim = v.start.dim; worker = v.worker; earlier = v.tries; mine = v.mine } in
     let star : x.star ≡ star_in k p = first_star a b p x k known in
-    let items : (know b).items ≡ (p, x) ∷ [] = ap (λ (w : Hand). w.items) known ∙ ap (λ (l : List (ℕ × HomeOf)). (p, x) ∷ l) (no_items v a.sees empty) in
+    let items : (know b).items ≡ (p, x) ∷ [] = ap (λ (w : PassView). w.items) known ∙ ap (λ (l : List (ℕ × VersionedStar)). (p, x) ∷ l) (no_items v a.sees empty) in
     let free : v.has_journal ≡ false = empty 0 in
-    let going : Going story (know b) = record {
+    let going : Going begun (know b) = record {
       try_now = won_try p x (length v.mine);
       noting = record {
-        tries = ap (λ (w : Hand). w.tries) known;
+        tries = ap (λ (w : PassView). w.tries) known;
         place = refl;
         won = refl;
         found = refl;
         first = item_front p x [];
         count = refl;
         among = λ q t. inl (sym (only_place p q x t));
-        worker = ap (λ (w : Hand). w.worker) known;
-        start = ap (λ (w : Hand). w.start.dim) known;
+        worker = ap (λ (w : PassView). w.worker) known;
+        start = ap (λ (w : PassView). w.start.dim) known;
       };
       note = sym items;
-      mine = ap (λ (w : Hand). w.mine) known;
-      claiming = ap (λ (w : Hand). w.claiming) known;
+      mine = ap (λ (w : PassView). w.mine) known;
+      claiming = ap (λ (w : PassView). w.claiming) known;
       fresh = (refl, refl);
     } in
     let made : Made b h k = record {
-      replays = ap (λ (w : Hand). replay w.seen h.flips.items) known ∙ ap (replay k) flips;
+      replays = ap (λ (w : PassView). replay w.seen h.flips.items) known ∙ ap (replay k) flips;
       faces = subst (AllByRecursion OfFaces) (sym flips) tt;
       labels = λ q t. off (ap (flips_touch q) (sym flips) ∙ t);
-      places = λ q t. ap (λ (l : List ℕ). has l q) places ∙ or_left (nat_eq p q) false (ap (λ (n : ℕ). nat_eq p n) (sym (only_place p q x (ap (λ (l : List (ℕ × HomeOf)). has_item l q) (sym items) ∙ t))) ∙ nat_eq_same p);
+      places = λ q t. ap (λ (l : List ℕ). has l q) places ∙ or_left (nat_eq p q) false (ap (λ (n : ℕ). nat_eq p n) (sym (only_place p q x (ap (λ (l : List (ℕ × VersionedStar)). has_item l q) (sym items) ∙ t))) ∙ nat_eq_same p);
       copied = λ q t. off (ap (flips_touch q) (sym flips) ∙ t);
       known = subst (AllByRecursion (IsKnown (know b).items)) (sym copies) tt;
-      near = near;
+      lent = lent;
       hosts = λ q y held.
-          let here : item ((p, x) ∷ []) q ≡ some y = ap (λ (l : List (ℕ × HomeOf)). item l q) (sym items) ∙ held in
+          let here : item ((p, x) ∷ []) q ≡ some y = ap (λ (l : List (ℕ × VersionedStar)). item l q) (sym items) ∙ held in
           let one : p ≡ q = only_place p q x (has_some ((p, x) ∷ []) q y here) in
           let same_home : x ≡ y = some-injective x y (sym (item_front p x []) ∙ (ap (item ((p, x) ∷ [])) one ∙ here)) in
-          ap (slot b) (sym one) ∙ (at ∙ ap (λ (z : HomeOf). some (Home z)) (same_home ∙ (λ i. home ((ap (λ (z : HomeOf). z.star) (sym same_home) ∙ (star ∙ ap (star_in k) one)) i) y.version)));
-      free = ap (λ (w : Hand). w.has_journal) known ∙ free;
+          ap (slot b) (sym one) ∙ (at ∙ ap (λ (z : VersionedStar). some (Home z)) (same_home ∙ (λ i. home ((ap (λ (z : VersionedStar). z.star) (sym same_home) ∙ (star ∙ ap (star_in k) one)) i) y.version)));
+      free = ap (λ (w : PassView). w.has_journal) known ∙ free;
     } in
     record {
-      story = story;
+      begun = begun;
       told = subst (λ (d : ℕ). IsTold o d task) (sym is) told;
       of = record { place = sym told.place; dim = sym told.dim_is; flips = refl };
       turned = record {
@@ -135,17 +135,17 @@ begun task o a b h dim x k told empty known at is places flips copies near =
 -- ---- the answer
 
 -- the row of an answer without an entry
-why_row : (task : Task) (round : ℕ) (s : Story) (t : Try) (was now : List JournalEntry) (answer : Tried) → Why task s t answer → now ≡ was → OwnRow task round s.worker t was now s.flips answer
-why_row task round s t was now (Committed n) why same = absurd why
-why_row task round s t was now (Busy q o) why same = (why, same)
-why_row task round s t was now Nothing why same = (why.0, why.1, same)
-why_row task round s t was now (Blocked f) why same = (why, same)
-why_row task round s t was now (Declined c) why same = (why, same)
-why_row task round s t was now Quit why same = same
-why_row task round s t was now NoMemory why same = (why, same)
+cause_row : (task : Task) (round : ℕ) (s : StartedTry) (t : Try) (was now : List JournalEntry) (answer : Tried) → Cause task s t answer → now ≡ was → OwnRow task round s.worker t was now s.flips answer
+cause_row task round s t was now (Committed n) cause same = absurd cause
+cause_row task round s t was now (Busy q o) cause same = (cause, same)
+cause_row task round s t was now Nothing cause same = (cause.0, cause.1, same)
+cause_row task round s t was now (Blocked f) cause same = (cause, same)
+cause_row task round s t was now (Declined c) cause same = (cause, same)
+cause_row task round s t was now Quit cause same = same
+cause_row task round s t was now NoMemory cause same = (cause, same)
 
 -- a try whose first claim was won, as the worker says it
-won_own : (task : Task) (round : ℕ) (s : Story) (v : Hand) (t : Try) (now : List JournalEntry) (answer : Tried) → IsStoryOf task s → Noting s v t → OwnRow task round s.worker t s.mine now s.flips answer → OwnTry task round s.worker t s.mine now answer
+won_own : (task : Task) (round : ℕ) (s : StartedTry) (v : PassView) (t : Try) (now : List JournalEntry) (answer : Tried) → IsStartOf task s → Noting s v t → OwnRow task round s.worker t s.mine now s.flips answer → OwnTry task round s.worker t s.mine now answer
 won_own task round s v t now answer of n row = record {
   place = n.place ∙ of.place;
   count = n.count;
@@ -160,21 +160,21 @@ won_own task round s v t now answer of n row = record {
 }
 
 -- the latest try of a pass is one that its worker says of itself
-abbrev pub Owns : Task → ℕ → Hand → Hand → Tried → Type 0
+abbrev pub Owns : Task → ℕ → PassView → PassView → Tried → Type 0
 Owns task round v w answer = (t : Try) × (w.tries ≡ t ∷ v.tries) × OwnTry task round v.worker t v.mine w.mine answer
 
-module _ (task : Task) (o : Order) (a b c d : Pass) (h n : Hold) (dim round : ℕ) (g : Begun task o a b h dim) (tries : (know d).tries ≡ (know c).tries) (mine : (know d).mine ≡ (know c).mine) where
-  owned : (t : Try) (answer : Tried) → Noting g.story (know c) t → OwnRow task round g.story.worker t g.story.mine (know d).mine g.story.flips answer → Owns task round (know a) (know d) answer
+module _ (task : Task) (o : TryPlan) (a b c d : Pass) (h n : Hold) (dim round : ℕ) (g : Begun task o a b h dim) (tries : (know d).tries ≡ (know c).tries) (mine : (know d).mine ≡ (know c).mine) where
+  owned : (t : Try) (answer : Tried) → Noting g.begun (know c) t → OwnRow task round g.begun.worker t g.begun.mine (know d).mine g.begun.flips answer → Owns task round (know a) (know d) answer
   owned t answer note row =
-      let own : OwnTry task round g.story.worker t g.story.mine (know d).mine answer = won_own task round g.story (know c) t (know d).mine answer g.of note row in
-      (t, tries ∙ (note.tries ∙ ap (λ (ts : List Try). t ∷ ts) g.earlier), subst (λ (w : ℕ). OwnTry task round w t (know a).mine (know d).mine answer) g.worker (subst (λ (was : List JournalEntry). OwnTry task round g.story.worker t was (know d).mine answer) g.mine own))
+      let own : OwnTry task round g.begun.worker t g.begun.mine (know d).mine answer = won_own task round g.begun (know c) t (know d).mine answer g.of note row in
+      (t, tries ∙ (note.tries ∙ ap (λ (ts : List Try). t ∷ ts) g.earlier), subst (λ (w : ℕ). OwnTry task round w t (know a).mine (know d).mine answer) g.worker (subst (λ (was : List JournalEntry). OwnTry task round g.begun.worker t was (know d).mine answer) g.mine own))
 
-  ended_own : (answer : Tried) → Ended task g.story c n answer → Owns task round (know a) (know d) answer
-  ended_own answer e = owned e.try_now answer e.noting (why_row task round g.story e.try_now g.story.mine (know d).mine answer e.reason (mine ∙ e.mine))
+  ended_own : (answer : Tried) → Ended task g.begun c n answer → Owns task round (know a) (know d) answer
+  ended_own answer e = owned e.try_now answer e.noting (cause_row task round g.begun e.try_now g.begun.mine (know d).mine answer e.reason (mine ∙ e.mine))
 
-  entered_own : (seq : ℕ) → Entered task round g.story c n seq → Owns task round (know a) (know d) (Committed seq)
-  entered_own seq e = owned e.try_now (Committed seq) e.noting (subst (λ (now : List JournalEntry). CommittedOwn task round g.story.worker e.try_now seq g.story.mine now g.story.flips) (sym mine) e.row)
+  entered_own : (seq : ℕ) → Entered task round g.begun c n seq → Owns task round (know a) (know d) (Committed seq)
+  entered_own seq e = owned e.try_now (Committed seq) e.noting (subst (λ (now : List JournalEntry). CommittedOwn task round g.begun.worker e.try_now seq g.begun.mine now g.begun.flips) (sym mine) e.row)
 
-  pub tried_own : (made : Result ℕ Tried) (answer : Tried) → IfOk made (Entered task round g.story c n) → IfErr made (Ended task g.story c n) → IfOk made (λ seq. answer ≡ Committed seq) × IfErr made (λ why. answer ≡ why) → Owns task round (know a) (know d) answer
+  pub tried_own : (made : Result ℕ Tried) (answer : Tried) → IfOk made (Entered task round g.begun c n) → IfErr made (Ended task g.begun c n) → IfOk made (λ seq. answer ≡ Committed seq) × IfErr made (λ cause. answer ≡ cause) → Owns task round (know a) (know d) answer
   tried_own (Ok seq) answer entered ended is = subst (Owns task round (know a) (know d)) (sym is.0) (entered_own seq entered)
-  tried_own (Err why) answer entered ended is = subst (Owns task round (know a) (know d)) (sym is.1) (ended_own why ended)
+  tried_own (Err cause) answer entered ended is = subst (Owns task round (know a) (know d)) (sym is.1) (ended_own cause ended)

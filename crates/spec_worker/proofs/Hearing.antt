@@ -6,16 +6,16 @@ use Rattle.board_rule.proofs.Items.{off}
 use Rattle.vertex_claims.specs.Passes.{know}
 use Rattle.vertex_claims.specs.declared.pass.Pass.{Pass}
 use Rattle.held_stars.specs.Gates.{Heard, Keeps, after_asked, fails, noted_in}
-use Rattle.held_stars.specs.Holding.{Story}
+use Rattle.held_stars.specs.Holding.{StartedTry}
 use Rattle.held_stars.specs.declared.hold.Hold.{Hold}
 use Rattle.held_stars.specs.declared.point.Point.TheVariants.{Start, Journal}
 use Rattle.round_rules.specs.Accounts.{quits}
 use Rattle.round_rules.specs.Tasks.{Task}
 use Rattle.round_rules.specs.declared.tried.Tried.{Tried}
 use Rattle.round_rules.specs.declared.tried.Tried.TheVariants.{Committed, Busy, Nothing, Blocked, Declined, Quit, NoMemory}
-use Rattle.spec_worker.specs.Trying.{Ended, Entered, Why}
+use Rattle.spec_worker.specs.Trying.{Ended, Entered, Cause}
 use Rattle.spec_worker.specs.Hearing.{AtMostOnce, Concludes, TryHeard, RunHeard, after_made, commits, flips_in, is_commit, is_quit}
-use Rattle.spec_worker.specs.declared.turning.Order.{Order}
+use Rattle.spec_worker.specs.declared.turning.TryPlan.{TryPlan}
 use Rattle.spec_worker.proofs.BegunTries.{Begun}
 use Rattle.spec_worker.proofs.WholeRuns.{quits_snoc}
 
@@ -67,22 +67,22 @@ flips_snoc : (es : List JournalEntry) (e : JournalEntry) → flips_in (es ++ e �
 flips_snoc [] e = omega arith
 flips_snoc (x ∷ es) e = let h = flips_snoc es e in omega (arith, h)
 
-no_entry : (task : Task) (s : Story) (t : Try) (a : Tried) → Why task s t a → is_commit a ≡ false
-no_entry task s t (Committed n) why = absurd why
-no_entry task s t (Busy q o) why = refl
-no_entry task s t Nothing why = refl
-no_entry task s t (Blocked f) why = refl
-no_entry task s t (Declined c) why = refl
-no_entry task s t Quit why = refl
-no_entry task s t NoMemory why = refl
+no_entry : (task : Task) (s : StartedTry) (t : Try) (a : Tried) → Cause task s t a → is_commit a ≡ false
+no_entry task s t (Committed n) cause = absurd cause
+no_entry task s t (Busy q o) cause = refl
+no_entry task s t Nothing cause = refl
+no_entry task s t (Blocked f) cause = refl
+no_entry task s t (Declined c) cause = refl
+no_entry task s t Quit cause = refl
+no_entry task s t NoMemory cause = refl
 
 -- the first place of a try is noted
 pub first_noted : (n : ℕ) → 1 + n ≡ n + 1
 first_noted n = omega arith
 
 -- the last of its claims and flips were made, and it was ended
-pub tried_heard : (task : Task) (o : Order) (a b c d : Pass) (h n : Hold) (dim round : ℕ) (g : Begun task o a b h dim) → (know d).mine ≡ (know c).mine → h.flips.items ≡ [] → (made : Result ℕ Tried) (answer : Tried)
-    → IfOk made (Entered task round g.story c n) → IfErr made (Ended task g.story c n) → IfOk made (λ seq. answer ≡ Committed seq) × IfErr made (λ why. answer ≡ why)
+pub tried_heard : (task : Task) (o : TryPlan) (a b c d : Pass) (h n : Hold) (dim round : ℕ) (g : Begun task o a b h dim) → (know d).mine ≡ (know c).mine → h.flips.items ≡ [] → (made : Result ℕ Tried) (answer : Tried)
+    → IfOk made (Entered task round g.begun c n) → IfErr made (Ended task g.begun c n) → IfOk made (λ seq. answer ≡ Committed seq) × IfErr made (λ cause. answer ≡ cause)
     → (l p q r : ℕ) → p ≡ l + 1 → r ≡ q → (x k y : Heard) → Concludes made p (q + 1) (length h.flips.items) (length n.flips.items) x k → y ≡ after_made made k
     → TryHeard 0 answer l r (flips_in (know a).mine) (flips_in (know d).mine) x y
 tried_heard task o a b c d h n dim round g mine empty (Ok seq) answer entered ended is l p q r first last x k y concludes e =
@@ -98,7 +98,7 @@ tried_heard task o a b c d h n dim round g mine empty (Ok seq) answer entered en
     let same = concludes.committed in
     let zero_then = ap length empty in
     let all_now = ap length entered.flips in
-    let entries = ap flips_in (mine ∙ entered.row.entry) ∙ flips_snoc g.story.mine _ in
+    let entries = ap flips_in (mine ∙ entered.row.entry) ∙ flips_snoc g.begun.mine _ in
     let were = ap flips_in g.mine in
     let one = ap (λ (t : Tried). commits (t ∷ [])) is.0 in
     let ended = ap (λ (t : Heard). t.ended) e in
@@ -113,7 +113,7 @@ tried_heard task o a b c d h n dim round g mine empty (Ok seq) answer entered en
       fetched = λ _. omega (arith, fetches, fetched);
       committed = omega (arith, told, same, one);
     }
-tried_heard task o a b c d h n dim round g mine empty (Err why) answer entered ended is l p q r first last x k y concludes e =
+tried_heard task o a b c d h n dim round g mine empty (Err cause) answer entered ended is l p q r first last x k y concludes e =
     let starts = ap (λ (t : Heard). t.started) e in
     let claims = ap (λ (t : Heard). t.claimed) e in
     let fetches = ap (λ (t : Heard). t.fetched) e in
@@ -121,7 +121,7 @@ tried_heard task o a b c d h n dim round g mine empty (Err why) answer entered e
     let begun = concludes.started in
     let claimed = concludes.claimed in
     let same = concludes.committed in
-    let no : is_commit answer ≡ false = ap is_commit is.1 ∙ no_entry task g.story ended.try_now why ended.reason in
+    let no : is_commit answer ≡ false = ap is_commit is.1 ∙ no_entry task g.begun ended.try_now cause ended.reason in
     let zero_more : commits (answer ∷ []) ≡ 0 = ap (λ (t : Bool). cond t 1 0 + 0) no in
     let ended = ap (λ (t : Heard). t.ended) e in
     let kept = concludes.ended in

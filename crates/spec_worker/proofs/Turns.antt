@@ -2,9 +2,9 @@
 use Rattle.std.proofs.Common.{◌≡◌, ◌≢◌, ℕ, ◌+◌, ◌*◌, ◌≤◌, Bool, true, false, List, [], ◌∷◌, ◌++◌, length, append_assoc, length-append, Result, Ok, Err, if◌then◌else◌, sym, ◌∙◌, ap, refl, subst, arith}
 use mathlib.Core.Option.{some}
 use Rattle.complex_core.specs.Labels.{has, union}
-use Rattle.complex_core.specs.Spaces.{Space, is_held}
+use Rattle.complex_core.specs.Complexes.{ComplexView, is_held}
 use Rattle.complex_core.proofs.Laws.{or_left, or_right}
-use Rattle.flip_rules.specs.Flips.{why, flipped, Shaped, FlipRefused}
+use Rattle.flip_rules.specs.Flips.{broken_rule, flipped, Shaped, FlipRefused}
 use Rattle.flip_rules.specs.Journals.{flip_touches}
 use Rattle.flip_rules.specs.declared.flip.Flip.{Flip}
 use Rattle.flip_rules.specs.declared.flip.FlipFault.{FlipFault}
@@ -18,14 +18,14 @@ use Rattle.stars.specs.StarViews.{VertexStar}
 use Rattle.board_rule.specs.Items.{item, has_item}
 use Rattle.board_rule.specs.Plays.{Sees}
 use Rattle.board_rule.specs.Views.{star_in}
-use Rattle.board_rule.specs.declared.data.Home.{Home as HomeOf}
-use Rattle.board_rule.specs.declared.view.Hand.{Hand}
+use Rattle.board_rule.specs.declared.data.VersionedStar.{VersionedStar}
+use Rattle.board_rule.specs.declared.view.PassView.{PassView}
 use Rattle.anneal_plan.specs.Fits.{FitsStar}
 use Rattle.anneal_plan.specs.Turns.{after_flip, after_flips}
 use Rattle.anneal_plan.proofs.Fitting.{only_b_can_break}
 use Rattle.vertex_claims.specs.Passes.{know}
 use Rattle.vertex_claims.specs.declared.pass.Pass.{Pass}
-use Rattle.held_stars.specs.Holding.{Story, Noting, Going, Made, Restorable, RefusedAt, Reason, Ends}
+use Rattle.held_stars.specs.Holding.{StartedTry, Noting, Going, Made, Restorable, RefusedAt, Reason, Ends}
 use Rattle.held_stars.specs.declared.hold.Hold.{Hold}
 use Rattle.held_stars.specs.declared.stopped.Stopped.{Stopped}
 use Rattle.held_stars.specs.declared.stopped.Stopped.TheVariants as stopped
@@ -46,26 +46,26 @@ touch_among : (q : ℕ) (xs : List Flip) (f : Flip) (ys : List Flip) → flip_to
 touch_among q [] f ys t = or_left (flip_touches q f) (flips_touch q ys) t
 touch_among q (x ∷ xs) f ys t = or_right (flip_touches q x) (flips_touch q (xs ++ f ∷ ys)) (touch_among q xs f ys t)
 
-pub all_among : (s : Story) (dim : ℕ) (pass : Pass) (h : Hold) (f : Flip) (next : List Flip) (labels : List ℕ) → IsNext s dim pass h f next → labels ≡ union f.a f.b → (q : ℕ) → has labels q ≡ true → flips_touch q s.flips ≡ true
+pub all_among : (s : StartedTry) (dim : ℕ) (pass : Pass) (h : Hold) (f : Flip) (next : List Flip) (labels : List ℕ) → IsNext s dim pass h f next → labels ≡ union f.a f.b → (q : ℕ) → has labels q ≡ true → flips_touch q s.flips ≡ true
 all_among s dim pass h f next labels n is q t = ap (flips_touch q) n.turned.whole ∙ touch_among q h.flips.items f next (sym (union_touches labels f q is) ∙ t)
 
 -- ---- dimensions
 
 -- the star where the try began has the dimension of the try
-pub home_dim : (s : Story) (v : Hand) → Sees v → Going s v → s.home.star.dim ≡ s.dim
+pub home_dim : (s : StartedTry) (v : PassView) → Sees v → Going s v → s.home.star.dim ≡ s.dim
 home_dim s v sees g =
-    let here : item v.items s.place ≡ some s.home = ap (λ (l : List (ℕ × HomeOf)). item l s.place) (sym g.note) ∙ g.noting.first in
+    let here : item v.items s.place ≡ some s.home = ap (λ (l : List (ℕ × VersionedStar)). item l s.place) (sym g.note) ∙ g.noting.first in
     ap (λ (x : VertexStar). x.dim) (sees.stars s.place s.home here).1 ∙ sees.dim ∙ g.noting.start
 
-pub next_shape : (s : Story) (dim : ℕ) (pass : Pass) (h : Hold) (f : Flip) (next : List Flip) → IsNext s dim pass h f next → Shaped dim f.a f.b
+pub next_shape : (s : StartedTry) (dim : ℕ) (pass : Pass) (h : Hold) (f : Flip) (next : List Flip) → IsNext s dim pass h f next → Shaped dim f.a f.b
 next_shape s dim pass h f next n = subst (λ (d : ℕ). Shaped d f.a f.b) (home_dim s (know pass) pass.sees n.turned.going ∙ n.dim_is) n.fits.shape
 
 -- ---- a flip is made
 
 -- how a try stands once the labels of its next flip are held
-pub record Claimed (s : Story) (f : Flip) (next : List Flip) (pass : Pass) (h : Hold) : Type 0 where
+pub record Claimed (s : StartedTry) (f : Flip) (next : List Flip) (pass : Pass) (h : Hold) : Type 0 where
   pub going : Going s (know pass)
-  pub now : Space
+  pub now : ComplexView
   pub made : Made pass h now
   pub whole : s.flips ≡ h.flips.items ++ f ∷ next
   pub star : star_in now s.place ≡ after_flips s.home.star h.flips.items
@@ -75,9 +75,9 @@ pub record Claimed (s : Story) (f : Flip) (next : List Flip) (pass : Pass) (h : 
   pub places : length h.places.items ≤ 9 + 8 * length h.flips.items
 
 -- the claims leave the flips and the star of the place
-pub claimed : (s : Story) (dim : ℕ) (a b : Pass) (h n : Hold) (f : Flip) (next : List Flip) (labels : List ℕ) → IsNext s dim a h f next → labels ≡ union f.a f.b → length (union f.a f.b) ≤ 8 → n.flips.items ≡ h.flips.items
+pub claimed : (s : StartedTry) (dim : ℕ) (a b : Pass) (h n : Hold) (f : Flip) (next : List Flip) (labels : List ℕ) → IsNext s dim a h f next → labels ≡ union f.a f.b → length (union f.a f.b) ≤ 8 → n.flips.items ≡ h.flips.items
     → length n.places.items ≤ length h.places.items + length labels → ((q : ℕ) → has labels q ≡ true → has_item (know b).items q ≡ true)
-    → ((now : Space) → Going s (know a) → ((q : ℕ) → has labels q ≡ true → flips_touch q s.flips ≡ true) → Made a h now → (m : Space) × Going s (know b) × Made b n m × (star_in m s.place ≡ star_in now s.place))
+    → ((now : ComplexView) → Going s (know a) → ((q : ℕ) → has labels q ≡ true → flips_touch q s.flips ≡ true) → Made a h now → (m : ComplexView) × Going s (know b) × Made b n m × (star_in m s.place ≡ star_in now s.place))
     → Claimed s f next b n
 claimed s dim a b h n f next labels t is few flips places held claim = let r = claim t.turned.now t.turned.going (all_among s dim a h f next labels t is) t.turned.made in record {
   going = r.1;
@@ -92,7 +92,7 @@ claimed s dim a b h n f next labels t is few flips places held claim = let r = c
 }
 
 -- then the flip is made
-pub turned : (s : Story) (a b : Pass) (h n : Hold) (f : Flip) (next : List Flip) (t : Claimed s f next a h) → know b ≡ know a → Made b n (flipped t.now f.a f.b) → n.flips.items ≡ h.flips.items ++ f ∷ [] → n.places.items ≡ h.places.items
+pub turned : (s : StartedTry) (a b : Pass) (h n : Hold) (f : Flip) (next : List Flip) (t : Claimed s f next a h) → know b ≡ know a → Made b n (flipped t.now f.a f.b) → n.flips.items ≡ h.flips.items ++ f ∷ [] → n.places.items ≡ h.places.items
     → length n.copies.items ≤ 8 * length n.flips.items → Turned s b n next
 turned s a b h n f next t known made flips places copies = record {
   going = subst (Going s) (sym known) t.going;
@@ -108,7 +108,7 @@ turned s a b h n f next t known made flips places copies = record {
 -- ---- a try ends
 
 -- the gate ended it
-pub ended_quit : (task : Task) (s : Story) (pass : Pass) (h : Hold) (rest : List Flip) (a : Tried) → Turned s pass h rest → a ≡ Quit → Ended task s pass h a
+pub ended_quit : (task : Task) (s : StartedTry) (pass : Pass) (h : Hold) (rest : List Flip) (a : Tried) → Turned s pass h rest → a ≡ Quit → Ended task s pass h a
 ended_quit task s pass h rest a t is = subst (Ended task s pass h) (sym is) record {
   try_now = t.going.try_now;
   noting = t.going.noting;
@@ -117,11 +117,11 @@ ended_quit task s pass h rest a t is = subst (Ended task s pass h) (sym is) reco
   restorable = made_restorable pass pass h t.now pass.sees t.made refl t.made.hosts;
 }
 
-pub ended_claim_quit : (task : Task) (s : Story) (pass : Pass) (h : Hold) (reason : Stopped) → reason ≡ stopped.Quit → Ends s pass h reason → Ended task s pass h Quit
+pub ended_claim_quit : (task : Task) (s : StartedTry) (pass : Pass) (h : Hold) (reason : Stopped) → reason ≡ stopped.Quit → Ends s pass h reason → Ended task s pass h Quit
 ended_claim_quit task s pass h reason is e = record { try_now = e.try_now; noting = e.noting; mine = e.mine; reason = tt; restorable = e.restorable }
 
 -- another worker had a label
-pub ended_busy : (task : Task) (s : Story) (pass : Pass) (h : Hold) (p w q o : ℕ) (reason : Stopped) → reason ≡ stopped.Busy q o → p ≡ q → w ≡ o → Ends s pass h reason → Ended task s pass h (Busy p w)
+pub ended_busy : (task : Task) (s : StartedTry) (pass : Pass) (h : Hold) (p w q o : ℕ) (reason : Stopped) → reason ≡ stopped.Busy q o → p ≡ q → w ≡ o → Ends s pass h reason → Ended task s pass h (Busy p w)
 ended_busy task s pass h p w q o reason is at by e =
     let r : RefusedAt s e.try_now p w = subst (λ (y : Stopped). Reason s e.try_now y) (is ∙ (λ i. stopped.Busy (sym at i) (sym by i))) e.reason in
     record {
@@ -139,41 +139,41 @@ ended_busy task s pass h p w q o reason is at by e =
     }
 
 -- the noted stars are those of the complex that the pass knows, and the flips so far replay on it
-replays_on : (s : Story) (dim : ℕ) (pass : Pass) (h : Hold) (now : Space) → (g : Going s (know pass)) → Made pass h now → s.dim ≡ dim → ReplaysOn dim g.try_now.note h.flips.items
+replays_on : (s : StartedTry) (dim : ℕ) (pass : Pass) (h : Hold) (now : ComplexView) → (g : Going s (know pass)) → Made pass h now → s.dim ≡ dim → ReplaysOn dim g.try_now.note h.flips.items
 replays_on s dim pass h now g m is = record {
   complex = (know pass).seen;
   end = now;
   stars = record {
     complex = pass.sees.complex;
     dim = pass.sees.dim ∙ g.noting.start ∙ is;
-    stars = λ p x at. (pass.sees.stars p x (ap (λ (l : List (ℕ × HomeOf)). item l p) (sym g.note) ∙ at)).1;
+    stars = λ p x at. (pass.sees.stars p x (ap (λ (l : List (ℕ × VersionedStar)). item l p) (sym g.note) ∙ at)).1;
   };
-  labels = λ q t. ap (λ (l : List (ℕ × HomeOf)). has_item l q) g.note ∙ m.labels q t;
+  labels = λ q t. ap (λ (l : List (ℕ × VersionedStar)). has_item l q) g.note ∙ m.labels q t;
   replays = m.replays;
 }
 
 -- the only rule that a proposed flip may break
-only_face : (s : Story) (k : Space) (free : List ℕ) (f : Flip) (x : VertexStar) (e : Illegal) → star_in k s.place ≡ x → FitsStar x free f → why k f.a f.b ≡ Err e → why k f.a f.b ≡ Err BIsFace
+only_face : (s : StartedTry) (k : ComplexView) (free : List ℕ) (f : Flip) (x : VertexStar) (e : Illegal) → star_in k s.place ≡ x → FitsStar x free f → broken_rule k f.a f.b ≡ Err e → broken_rule k f.a f.b ≡ Err BIsFace
 only_face s k free f x e is fits w =
     by (is_held k.facets f.b) (only_b_can_break k (star_in k s.place) free f record { dim = refl; rows = refl } (subst (λ (y : VertexStar). FitsStar y free f) (sym is) fits))
   where
-    by : (b : Bool) → why k f.a f.b ≡ (if b then Err BIsFace else Ok tt) → why k f.a f.b ≡ Err BIsFace
+    by : (b : Bool) → broken_rule k f.a f.b ≡ (if b then Err BIsFace else Ok tt) → broken_rule k f.a f.b ≡ Err BIsFace
     by true u = u
     by false u = let c : Ok tt ≡ Err e = sym u ∙ w in cc
 
 -- B is a face
-pub ended_blocked : (task : Task) (s : Story) (f : Flip) (next : List Flip) (a b : Pass) (h n : Hold) (e : Illegal) (fault : FlipFault) → (t : Claimed s f next a h) → s.dim ≡ task.dim → know b ≡ know a → fault ≡ fault_of.Illegal e → FlipRefused (why t.now f.a f.b) fault → Restorable b n → Ended task s b n (Blocked f)
+pub ended_blocked : (task : Task) (s : StartedTry) (f : Flip) (next : List Flip) (a b : Pass) (h n : Hold) (e : Illegal) (fault : FlipFault) → (t : Claimed s f next a h) → s.dim ≡ task.dim → know b ≡ know a → fault ≡ fault_of.Illegal e → FlipRefused (broken_rule t.now f.a f.b) fault → Restorable b n → Ended task s b n (Blocked f)
 unfolding replays_on
-ended_blocked task s f next a b h n e fault t is known illegal refused r = let w = subst (FlipRefused (why t.now f.a f.b)) illegal refused in record {
+ended_blocked task s f next a b h n e fault t is known illegal refused r = let w = subst (FlipRefused (broken_rule t.now f.a f.b)) illegal refused in record {
   try_now = t.going.try_now;
-  noting = subst (λ (v : Hand). Noting s v t.going.try_now) (sym known) t.going.noting;
-  mine = ap (λ (v : Hand). v.mine) known ∙ t.going.mine;
+  noting = subst (λ (v : PassView). Noting s v t.going.try_now) (sym known) t.going.noting;
+  mine = ap (λ (v : PassView). v.mine) known ∙ t.going.mine;
   reason = record {
     before = h.flips.items;
     next = next;
     member = t.whole;
     legal = replays_on s task.dim a h t.now t.going t.made is;
-    labels = λ q u. ap (λ (l : List (ℕ × HomeOf)). has_item l q) t.going.note ∙ t.labels q u;
+    labels = λ q u. ap (λ (l : List (ℕ × VersionedStar)). has_item l q) t.going.note ∙ t.labels q u;
     face = only_face s t.now t.free f (after_flips s.home.star h.flips.items) e t.star t.fits w;
     unrefused = t.going.fresh;
   };
@@ -193,15 +193,15 @@ none_broken (Ok u) fault is told = refl
 none_broken (Err e) fault is told = let c = told e refl in cc
 
 -- there wasn't enough memory for the flip, which is legal
-pub ended_memory : (task : Task) (s : Story) (f : Flip) (next : List Flip) (a b : Pass) (h n : Hold) (fault : FlipFault) → (t : Claimed s f next a h) → s.dim ≡ task.dim → know b ≡ know a → fault ≡ fault_of.Memory
-    → ((e : Illegal) → why t.now f.a f.b ≡ Err e → failed fault ≡ Err (fault_of.Illegal e)) → Restorable b n → Ended task s b n NoMemory
+pub ended_memory : (task : Task) (s : StartedTry) (f : Flip) (next : List Flip) (a b : Pass) (h n : Hold) (fault : FlipFault) → (t : Claimed s f next a h) → s.dim ≡ task.dim → know b ≡ know a → fault ≡ fault_of.Memory
+    → ((e : Illegal) → broken_rule t.now f.a f.b ≡ Err e → failed fault ≡ Err (fault_of.Illegal e)) → Restorable b n → Ended task s b n NoMemory
 unfolding replays_on
 ended_memory task s f next a b h n fault t is known want told back =
     let before = replays_on s task.dim a h t.now t.going t.made is in
     record {
       try_now = t.going.try_now;
-      noting = subst (λ (v : Hand). Noting s v t.going.try_now) (sym known) t.going.noting;
-      mine = ap (λ (v : Hand). v.mine) known ∙ t.going.mine;
+      noting = subst (λ (v : PassView). Noting s v t.going.try_now) (sym known) t.going.noting;
+      mine = ap (λ (v : PassView). v.mine) known ∙ t.going.mine;
       reason = record {
         made = h.flips.items ++ f ∷ [];
         next = next;
@@ -212,8 +212,8 @@ ended_memory task s f next a b h n fault t is known want told back =
           end = flipped t.now f.a f.b;
           stars = before.stars;
           labels = λ q u. either (flips_touch q h.flips.items) (flip_touches q f) (has_item t.going.try_now.note q ≡ true) (sym (touch_snoc q h.flips.items f) ∙ u) (before.labels q)
-              (λ v. ap (λ (l : List (ℕ × HomeOf)). has_item l q) t.going.note ∙ t.labels q (touch_one q f v));
-          replays = replay_then (know a).seen t.now h.flips.items f t.made.replays (none_broken (why t.now f.a f.b) fault want told);
+              (λ v. ap (λ (l : List (ℕ × VersionedStar)). has_item l q) t.going.note ∙ t.labels q (touch_one q f v));
+          replays = replay_then (know a).seen t.now h.flips.items f t.made.replays (none_broken (broken_rule t.now f.a f.b) fault want told);
         };
         vertices = t.going.fresh.0;
         journal = (let z : t.going.try_now.journal ≡ 0 = t.going.fresh.1 in omega (arith, z));

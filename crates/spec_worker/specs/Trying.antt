@@ -1,7 +1,7 @@
 -- A try while it runs.
 use Rattle.std.specs.Prelude.{◌≡◌, ℕ, ◌+◌, ◌*◌, ◌<◌, ◌≤◌, true, false, List, [], ◌∷◌, ◌++◌, length, ⊤}
 use Rattle.complex_core.specs.Labels.{has}
-use Rattle.complex_core.specs.Spaces.{Space}
+use Rattle.complex_core.specs.Complexes.{ComplexView}
 use Rattle.flip_rules.specs.declared.flip.Flip.{Flip}
 use Rattle.board_rule.specs.Items.{has_item}
 use Rattle.board_rule.specs.Tries.{Try, Unrefused}
@@ -10,23 +10,23 @@ use Rattle.anneal_plan.specs.Fits.{FitsStar}
 use Rattle.anneal_plan.specs.Turns.{after_flips, turn_count}
 use Rattle.vertex_claims.specs.Passes.{know}
 use Rattle.vertex_claims.specs.declared.pass.Pass.{Pass}
-use Rattle.held_stars.specs.Holding.{Story, Noting, Going, Made, Restorable, Settles}
+use Rattle.held_stars.specs.Holding.{StartedTry, Noting, Going, Made, Restorable, Settles}
 use Rattle.held_stars.specs.declared.hold.Hold.{Hold}
 use Rattle.round_rules.specs.Own.{BusyOwn, BlockedOwn, DeclinedOwn, CommittedOwn, WantedOwn}
 use Rattle.round_rules.specs.Tasks.{Task, place_of, turns_of}
 use Rattle.round_rules.specs.declared.tried.Tried.{Tried}
 use Rattle.spec_worker.specs.Workers.{ArePlaces}
-use Rattle.spec_worker.specs.declared.turning.Order.{Order}
+use Rattle.spec_worker.specs.declared.turning.TryPlan.{TryPlan}
 use Rattle.round_rules.specs.declared.tried.Tried.TheVariants.{Committed, Busy, Nothing, Blocked, Declined, Quit, NoMemory}
 
 -- the story is that of the task: it begins at the task's place, and may claim the labels of the flips that the task proposes at the star found there
-pub record IsStoryOf (task : Task) (s : Story) : Type 0 where
+pub record IsStartOf (task : Task) (s : StartedTry) : Type 0 where
   pub place : s.place ≡ place_of task
   pub dim : s.dim ≡ task.dim
   pub flips : s.flips ≡ turns_of task s.home.star
 
 -- this is what the order tells: the task, in this dimension
-pub record IsTold (o : Order) (dim : ℕ) (task : Task) : Type 0 where
+pub record IsTold (o : TryPlan) (dim : ℕ) (task : Task) : Type 0 where
   pub dim_is : task.dim ≡ dim
   pub place : place_of task ≡ o.place
   pub phase : task.phase ≡ o.phase
@@ -35,16 +35,16 @@ pub record IsTold (o : Order) (dim : ℕ) (task : Task) : Type 0 where
   pub count : turn_count task.words task.depth ≡ o.count
 
 -- its numbers fit a board with so many places, and for some depth its words choose its count
-pub record IsFit (o : Order) (places : ℕ) : Type 0 where
+pub record IsFit (o : TryPlan) (places : ℕ) : Type 0 where
   pub place : (0 < o.place) × (o.place ≤ places)
   pub free : ArePlaces o.free.now places
   pub count : (1 ≤ o.count) × (o.count ≤ 4)
   pub depth : (depth : ℕ) × (turn_count o.words.now depth ≡ o.count)
 
 -- some turns were made, and these flips are still to come
-pub record Turned (s : Story) (pass : Pass) (h : Hold) (rest : List Flip) : Type 0 where
+pub record Turned (s : StartedTry) (pass : Pass) (h : Hold) (rest : List Flip) : Type 0 where
   pub going : Going s (know pass)
-  pub now : Space
+  pub now : ComplexView
   pub made : Made pass h now
   pub whole : s.flips ≡ h.flips.items ++ rest
   pub star : star_in now s.place ≡ after_flips s.home.star h.flips.items
@@ -52,32 +52,32 @@ pub record Turned (s : Story) (pass : Pass) (h : Hold) (rest : List Flip) : Type
   pub copies : length h.copies.items ≤ 8 * length h.flips.items
 
 -- this flip is to be made next: it fits the star as the flips before it have left it
-pub record IsNext (s : Story) (dim : ℕ) (pass : Pass) (h : Hold) (f : Flip) (next : List Flip) : Type 0 where
+pub record IsNext (s : StartedTry) (dim : ℕ) (pass : Pass) (h : Hold) (f : Flip) (next : List Flip) : Type 0 where
   pub turned : Turned s pass h (f ∷ next)
   pub dim_is : s.dim ≡ dim
   pub free : List ℕ
   pub fits : FitsStar (after_flips s.home.star h.flips.items) free f
 
 -- what the note of a try has of why it ended without an entry
-abbrev pub Why : Task → Story → Try → Tried → Type 0
-Why task s t (Committed n) = ⊥
-Why task s t (Busy q o) = BusyOwn task s.worker t q o s.flips
-Why task s t Nothing = (s.flips ≡ []) × Unrefused t.vertices t.journal
-Why task s t (Blocked f) = BlockedOwn task t f s.flips
-Why task s t (Declined c) = DeclinedOwn task t c s.flips
-Why task s t Quit = ⊤
-Why task s t NoMemory = WantedOwn task t s.flips
+abbrev pub Cause : Task → StartedTry → Try → Tried → Type 0
+Cause task s t (Committed n) = ⊥
+Cause task s t (Busy q o) = BusyOwn task s.worker t q o s.flips
+Cause task s t Nothing = (s.flips ≡ []) × Unrefused t.vertices t.journal
+Cause task s t (Blocked f) = BlockedOwn task t f s.flips
+Cause task s t (Declined c) = DeclinedOwn task t c s.flips
+Cause task s t Quit = ⊤
+Cause task s t NoMemory = WantedOwn task t s.flips
 
 -- it ended without an entry, and the stars that it holds can be put back as they came
-pub record Ended (task : Task) (s : Story) (pass : Pass) (h : Hold) (a : Tried) : Type 0 where
+pub record Ended (task : Task) (s : StartedTry) (pass : Pass) (h : Hold) (a : Tried) : Type 0 where
   pub try_now : Try
   pub noting : Noting s (know pass) try_now
   pub mine : (know pass).mine ≡ s.mine
-  pub reason : Why task s try_now a
+  pub reason : Cause task s try_now a
   pub restorable : Restorable pass h
 
 -- its flips were committed as the entry with this number, and the stars that it holds are known as they are now, but for their versions
-pub record Entered (task : Task) (round : ℕ) (s : Story) (pass : Pass) (h : Hold) (n : ℕ) : Type 0 where
+pub record Entered (task : Task) (round : ℕ) (s : StartedTry) (pass : Pass) (h : Hold) (n : ℕ) : Type 0 where
   pub try_now : Try
   pub noting : Noting s (know pass) try_now
   pub row : CommittedOwn task round s.worker try_now n s.mine (know pass).mine s.flips

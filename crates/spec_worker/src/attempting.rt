@@ -2,21 +2,21 @@
 
 ghost use Rattle.std.specs.Prelude.{◌≡◌, ◌≤◌, ◌<◌, ◌∷◌, [], ◌+◌, IfErr, IfOk, OnOk, length, ◌≤ℤ◌, ◌<ℤ◌};
 ghost use mathlib.Core.Option.{some};
-ghost use Rattle.complex_core.specs.Spaces.{Space};
+ghost use Rattle.complex_core.specs.Complexes.{ComplexView};
 ghost use Rattle.anneal_plan.specs.Proposals.{allowed_of};
 ghost use Rattle.board_rule.specs.Plays.{IsRefused};
 ghost use Rattle.board_rule.specs.Tries.{Try};
-ghost use Rattle.board_rule.specs.declared.data.Home.{Home as HomeOf};
+ghost use Rattle.board_rule.specs.declared.data.VersionedStar.{VersionedStar};
 ghost use Rattle.board_rule.specs.Views.{Empty, opened_by, lost_by};
 ghost use Rattle.vertex_claims.specs.Passes.{IsOf, IsSame, know, slot, places_on, start_of, round_of, marks_left};
-ghost use Rattle.held_stars.specs.Holding.{Story, Roomy};
+ghost use Rattle.held_stars.specs.Holding.{StartedTry, Roomy};
 ghost use Rattle.held_stars.specs.Gates.{Follows, Keeps, fails, noted_in};
 ghost use Rattle.round_rules.specs.Tasks.{Task, changes};
 ghost use Rattle.round_rules.specs.Own.{OwnTry};
-ghost use Rattle.spec_worker.specs.Trying.{IsFit, IsTold, IsStoryOf, Turned, Ended, Entered};
+ghost use Rattle.spec_worker.specs.Trying.{IsFit, IsTold, IsStartOf, Turned, Ended, Entered};
 ghost use Rattle.spec_worker.specs.Hearing.{Concludes, TryHeard, after_made, flips_in, is_quit};
 
-use crate::turning::{Order, ask, changes_of, make_turns};
+use crate::turning::{TryPlan, ask, changes_of, make_turns};
 use anneal_plan::{Phase, allowed};
 use board_rule::Slot;
 use flip_rules::Flip;
@@ -46,17 +46,17 @@ fn conclude<G: Gate>(
     hold: &Hold,
     gate: &mut G,
     dim: u32,
-    order: &Order<'_>,
+    try_plan: &TryPlan<'_>,
 ) -> Result<u32, Tried>
     requires board { IsOf pass.old board.now }
-    requires order { IsFit order.now (places_on board.now) }
+    requires try_plan { IsFit try_plan.now (places_on board.now) }
     requires dim { (1 ≤ dim) × (dim ≤ 6) }
-    requires turned { (task : Task) × (s : Story) × IsTold order.now dim task × IsStoryOf task s × Turned s pass.old hold.now [] }
+    requires turned { (task : Task) × (s : StartedTry) × IsTold try_plan.now dim task × IsStartOf task s × Turned s pass.old hold.now [] }
     requires few { length hold.now.flips.items ≤ 4 }
     ensures same { IsSame pass.old pass.new }
     ensures kept { ((know pass.new).worker ≡ (know pass.old).worker) × ((know pass.new).start ≡ (know pass.old).start) × ((know pass.new).places ≡ (know pass.old).places) }
-    ensures commits { (task : Task) (s : Story) → IsTold order.now dim task → IsStoryOf task s → Turned s pass.old hold.now [] → IfOk result (Entered task (round_of board.now) s pass.new hold.now) }
-    ensures ends { (task : Task) (s : Story) → IsTold order.now dim task → IsStoryOf task s → Turned s pass.old hold.now [] → IfErr result (Ended task s pass.new hold.now) }
+    ensures commits { (task : Task) (s : StartedTry) → IsTold try_plan.now dim task → IsStartOf task s → Turned s pass.old hold.now [] → IfOk result (Entered task (round_of board.now) s pass.new hold.now) }
+    ensures ends { (task : Task) (s : StartedTry) → IsTold try_plan.now dim task → IsStartOf task s → Turned s pass.old hold.now [] → IfErr result (Ended task s pass.new hold.now) }
     ensures later { G.quits gate.old ≤ G.quits gate.new }
     ensures quit { IfErr result (λ answer. answer ≡ Tried.Quit → G.quits gate.old < G.quits gate.new) }
     ensures heard { Follows (G.heard gate.old) (G.heard gate.new) (Concludes result (noted_in (know pass.old).tries) (noted_in (know pass.new).tries) (length hold.now.flips.items) (length hold.now.flips.items)) }
@@ -64,7 +64,7 @@ fn conclude<G: Gate>(
     if hold.flips.is_empty() {
         return Err(Tried::Nothing);
     }
-    if let Err(sum) = permit(dim, order.phase, &hold.flips) {
+    if let Err(sum) = permit(dim, try_plan.phase, &hold.flips) {
         return Err(Tried::Declined(sum));
     }
     if let Err(owner) = fetch(board, pass) {
@@ -89,18 +89,18 @@ fn explore<G: Gate>(
     alloc: Global,
     gate: &mut G,
     dim: u32,
-    order: &Order<'_>,
+    try_plan: &TryPlan<'_>,
 ) -> Result<u32, Tried>
     requires board { IsOf pass.old board.now × ((know pass.old).places ≡ places_on board.now) }
-    requires order { IsFit order.now (places_on board.now) }
+    requires try_plan { IsFit try_plan.now (places_on board.now) }
     requires dim { (1 ≤ dim) × (dim ≤ 6) }
-    requires turned { (task : Task) × (s : Story) × IsTold order.now dim task × IsStoryOf task s × Turned s pass.old hold.old s.flips }
+    requires turned { (task : Task) × (s : StartedTry) × IsTold try_plan.now dim task × IsStartOf task s × Turned s pass.old hold.old s.flips }
     requires room { Roomy hold.old × (hold.old.flips.items ≡ []) }
     ensures same { IsSame pass.old pass.new }
     ensures kept { ((know pass.new).worker ≡ (know pass.old).worker) × ((know pass.new).start ≡ (know pass.old).start) × ((know pass.new).places ≡ (know pass.old).places) }
     ensures room { Roomy hold.new }
-    ensures commits { (task : Task) (s : Story) → IsTold order.now dim task → IsStoryOf task s → Turned s pass.old hold.old s.flips → IfOk result (Entered task (round_of board.now) s pass.new hold.new) }
-    ensures ends { (task : Task) (s : Story) → IsTold order.now dim task → IsStoryOf task s → Turned s pass.old hold.old s.flips → IfErr result (Ended task s pass.new hold.new) }
+    ensures commits { (task : Task) (s : StartedTry) → IsTold try_plan.now dim task → IsStartOf task s → Turned s pass.old hold.old s.flips → IfOk result (Entered task (round_of board.now) s pass.new hold.new) }
+    ensures ends { (task : Task) (s : StartedTry) → IsTold try_plan.now dim task → IsStartOf task s → Turned s pass.old hold.old s.flips → IfErr result (Ended task s pass.new hold.new) }
     ensures later { G.quits gate.old ≤ G.quits gate.new }
     ensures quit { IfErr result (λ answer. answer ≡ Tried.Quit → G.quits gate.old < G.quits gate.new) }
 
@@ -108,8 +108,8 @@ fn explore<G: Gate>(
     ensures heard { Follows (G.heard gate.old) (G.heard gate.new) (Concludes result (noted_in (know pass.old).tries) (noted_in (know pass.new).tries + 1) (length hold.old.flips.items) (length hold.new.flips.items)) }
 {
     ask(gate, Point::Claimed)?;
-    make_turns(board, pass, hold, alloc, gate, dim, order)?;
-    conclude(board, pass, hold, gate, dim, order)
+    make_turns(board, pass, hold, alloc, gate, dim, try_plan)?;
+    conclude(board, pass, hold, gate, dim, try_plan)
 }
 
 // Claims the place where a try begins.
@@ -120,8 +120,8 @@ fn begin_at(board: &Board, pass: &mut Pass, hold: &mut Hold, place: u16) -> Resu
     requires room { Roomy hold.old × (0 < marks_left pass.old) }
     ensures same { IsSame pass.old pass.new }
     ensures room { Roomy hold.new }
-    ensures won { OnOk result ((x : HomeOf) × (k : Space) × (know pass.new ≡ opened_by (know pass.old) place x k) × (slot pass.new place ≡ some (Slot.Home x))) }
-    ensures hold { OnOk result ((hold.new.places.items ≡ place ∷ []) × (hold.new.flips.items ≡ []) × (hold.new.copies.items ≡ []) × (hold.new.near.items ≡ [])) }
+    ensures won { OnOk result ((x : VersionedStar) × (k : ComplexView) × (know pass.new ≡ opened_by (know pass.old) place x k) × (slot pass.new place ≡ some (Slot.Home x))) }
+    ensures hold { OnOk result ((hold.new.places.items ≡ place ∷ []) × (hold.new.flips.items ≡ []) × (hold.new.copies.items ≡ []) × (hold.new.lent.items ≡ [])) }
     ensures lost { IfErr result (λ c. (c.place ≡ place) × IsRefused (know pass.old).worker c.owner × (know pass.new ≡ lost_by (know pass.old) place c.owner)) }
 {
     pass.first_claim(board, place)?;
@@ -138,7 +138,7 @@ fn finish<G: Gate>(
     made: Result<u32, Tried>,
 ) -> Tried
     requires board { IsOf pass.old board.now }
-    requires made { (task : Task) × (s : Story) × IfOk made (Entered task (round_of board.now) s pass.old hold.old) × IfErr made (Ended task s pass.old hold.old) }
+    requires made { (task : Task) × (s : StartedTry) × IfOk made (Entered task (round_of board.now) s pass.old hold.old) × IfErr made (Ended task s pass.old hold.old) }
     requires room { Roomy hold.old }
     ensures same { IsSame pass.old pass.new }
     ensures room { Roomy hold.new }
@@ -170,26 +170,26 @@ pub(crate) fn try_at<G: Gate>(
     hold: &mut Hold,
     alloc: Global,
     gate: &mut G,
-    order: &Order<'_>,
+    try_plan: &TryPlan<'_>,
 ) -> Tried
     requires board { IsOf pass.old board.now × ((know pass.old).places ≡ places_on board.now) × (1 ≤ (know pass.old).start.dim) }
     requires start { (know pass.old).start ≡ start_of board.now }
-    requires order { IsFit order.now (places_on board.now) }
+    requires try_plan { IsFit try_plan.now (places_on board.now) }
     requires empty { Empty (know pass.old) }
     requires room { Roomy hold.old × (0 < marks_left pass.old) }
     ensures same { IsSame pass.old pass.new × ((know pass.new).places ≡ (know pass.old).places) × ((know pass.new).start ≡ (know pass.old).start) × ((know pass.new).worker ≡ (know pass.old).worker) }
     ensures room { Roomy hold.new }
     ensures empty { Empty (know pass.new) }
-    ensures own { (task : Task) → IsTold order.now (know pass.old).start.dim task →
+    ensures own { (task : Task) → IsTold try_plan.now (know pass.old).start.dim task →
         (t : Try) × ((know pass.new).tries ≡ t ∷ (know pass.old).tries) × OwnTry task (round_of board.now) (know pass.old).worker t (know pass.old).mine (know pass.new).mine result }
     ensures later { G.quits gate.old ≤ G.quits gate.new }
     ensures quit { result ≡ Tried.Quit → G.quits gate.old < G.quits gate.new }
     ensures heard { Follows (G.heard gate.old) (G.heard gate.new) (TryHeard 0 result (noted_in (know pass.old).tries) (noted_in (know pass.new).tries) (flips_in (know pass.old).mine) (flips_in (know pass.new).mine)) }
 {
-    match begin_at(board, pass, hold, order.place) {
+    match begin_at(board, pass, hold, try_plan.place) {
         Ok(()) => {
             let dim = board.dim();
-            let made = explore(board, pass, hold, alloc, gate, dim, order);
+            let made = explore(board, pass, hold, alloc, gate, dim, try_plan);
             finish(board, pass, hold, gate, made)
         }
         Err(Claimed { place, owner }) => Tried::Busy { place, owner },

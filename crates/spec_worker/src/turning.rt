@@ -7,16 +7,16 @@ ghost use Rattle.flip_rules.specs.declared.flip.Flip.{Flip as FlipOf};
 ghost use Rattle.star_laws.specs.Stars.{flips_touch};
 ghost use Rattle.anneal_plan.specs.Fits.{FitsStar};
 ghost use Rattle.anneal_plan.specs.Proposals.{proposal_of};
-ghost use Rattle.board_rule.specs.declared.data.Home.{Home as HomeOf};
+ghost use Rattle.board_rule.specs.declared.data.VersionedStar.{VersionedStar};
 ghost use Rattle.vertex_claims.specs.Passes.{IsOf, IsSame, SameSlots, know, slot, spare, places_on};
-ghost use Rattle.held_stars.specs.Holding.{Story, Roomy};
+ghost use Rattle.held_stars.specs.Holding.{StartedTry, Roomy};
 ghost use Rattle.held_stars.specs.Gates.{Follows, Keeps, after_asked, fails, noted_in};
 ghost use Rattle.round_rules.specs.Tasks.{Task, change, changes};
-ghost use Rattle.spec_worker.specs.Trying.{IsFit, IsTold, IsStoryOf, Turned, IsNext, Ended};
+ghost use Rattle.spec_worker.specs.Trying.{IsFit, IsTold, IsStartOf, Turned, IsNext, Ended};
 ghost use Rattle.spec_worker.specs.Hearing.{is_quit};
 
 use anneal_plan::{Phase, find_candidates, proposal};
-use board_rule::{Home, Slot};
+use board_rule::{VersionedStar, Slot};
 use flip_rules::{Flip, FlipFault};
 use held_stars::{Gate, Hold, Point, Stopped, claim_labels, make_flip};
 use round_rules::Tried;
@@ -25,7 +25,7 @@ use vertex_claims::{Board, Pass};
 
 // What a try is told.
 #[derive(Clone, Copy)]
-pub(crate) struct Order<'a> {
+pub(crate) struct TryPlan<'a> {
     pub(crate) phase: Phase,
     pub(crate) words: &'a [u32; 8],
     // The labels that flips of index 0 may bring in.
@@ -53,22 +53,22 @@ fn propose(
     board: &Board,
     pass: &mut Pass,
     alloc: Global,
-    order: &Order<'_>,
+    try_plan: &TryPlan<'_>,
     turn: u32,
 ) -> Option<Flip>
     requires board { IsOf pass.old board.now }
-    requires star { (x : HomeOf) × (slot pass.old order.now.place ≡ some (Slot.Home x)) × (1 ≤ x.star.dim) }
+    requires star { (x : VersionedStar) × (slot pass.old try_plan.now.place ≡ some (Slot.Home x)) × (1 ≤ x.star.dim) }
     requires turn { turn ≤ 3 }
-    requires free { AllByRecursion (λ x. 0 < x) order.now.free.now }
+    requires free { AllByRecursion (λ x. 0 < x) try_plan.now.free.now }
     ensures same { IsSame pass.old pass.new }
     ensures known { (know pass.new ≡ know pass.old) × (spare pass.new ≡ spare pass.old) × SameSlots pass.old pass.new }
-    ensures proposal { (x : HomeOf) → slot pass.old order.now.place ≡ some (Slot.Home x) → result ≡ proposal_of x.star order.now.phase order.now.words.now turn order.now.free.now }
-    ensures fits { (x : HomeOf) → slot pass.old order.now.place ≡ some (Slot.Home x) → IfSome result (FitsStar x.star order.now.free.now) }
+    ensures proposal { (x : VersionedStar) → slot pass.old try_plan.now.place ≡ some (Slot.Home x) → result ≡ proposal_of x.star try_plan.now.phase try_plan.now.words.now turn try_plan.now.free.now }
+    ensures fits { (x : VersionedStar) → slot pass.old try_plan.now.place ≡ some (Slot.Home x) → IfSome result (FitsStar x.star try_plan.now.free.now) }
 {
-    let Home { mut star, version } = pass.take_star(board, order.place);
-    find_candidates(alloc, &mut star, order.phase, order.words);
-    let flip = proposal(&star, order.phase, order.words, turn, order.free);
-    pass.put_star(board, order.place, Home { star, version });
+    let VersionedStar { mut star, version } = pass.take_star(board, try_plan.place);
+    find_candidates(alloc, &mut star, try_plan.phase, try_plan.words);
+    let flip = proposal(&star, try_plan.phase, try_plan.words, turn, try_plan.free);
+    pass.put_star(board, try_plan.place, VersionedStar { star, version });
     flip
 }
 
@@ -85,15 +85,15 @@ fn take_turn<G: Gate>(
     requires board { IsOf pass.old board.now }
     requires places { (q : ℕ) → flips_touch q (flip.now ∷ []) ≡ true → q ≤ places_on board.now }
     requires dim { dim ≤ 6 }
-    requires next { (s : Story) × (next : List FlipOf) × IsNext s dim pass.old hold.old flip.now next }
+    requires next { (s : StartedTry) × (next : List FlipOf) × IsNext s dim pass.old hold.old flip.now next }
     requires room { Roomy hold.old × (length hold.old.flips.items < 4) }
     ensures same { IsSame pass.old pass.new }
     ensures kept { ((know pass.new).worker ≡ (know pass.old).worker) × ((know pass.new).start ≡ (know pass.old).start) × ((know pass.new).places ≡ (know pass.old).places) }
     ensures room { Roomy hold.new }
     ensures flips { OnOk result (hold.new.flips.items ≡ hold.old.flips.items ++ flip.now ∷ []) }
     ensures few { length hold.new.flips.items ≤ length hold.old.flips.items + 1 }
-    ensures turned { (s : Story) (next : List FlipOf) → IsNext s dim pass.old hold.old flip.now next → OnOk result (Turned s pass.new hold.new next) }
-    ensures ends { (task : Task) (s : Story) (next : List FlipOf) → task.dim ≡ dim → IsNext s dim pass.old hold.old flip.now next → IfErr result (Ended task s pass.new hold.new) }
+    ensures turned { (s : StartedTry) (next : List FlipOf) → IsNext s dim pass.old hold.old flip.now next → OnOk result (Turned s pass.new hold.new next) }
+    ensures ends { (task : Task) (s : StartedTry) (next : List FlipOf) → task.dim ≡ dim → IsNext s dim pass.old hold.old flip.now next → IfErr result (Ended task s pass.new hold.new) }
     ensures later { G.quits gate.old ≤ G.quits gate.new }
     ensures quit { IfErr result (λ answer. answer ≡ Tried.Quit → G.quits gate.old < G.quits gate.new) }
     ensures heard { Follows (G.heard gate.old) (G.heard gate.new) (Keeps (fails is_quit result) (noted_in (know pass.old).tries) (noted_in (know pass.new).tries) (length hold.old.flips.items) (length hold.new.flips.items)) }
@@ -121,25 +121,25 @@ pub(crate) fn make_turns<G: Gate>(
     alloc: Global,
     gate: &mut G,
     dim: u32,
-    order: &Order<'_>,
+    try_plan: &TryPlan<'_>,
 ) -> Result<(), Tried>
     requires board { IsOf pass.old board.now × ((know pass.old).places ≡ places_on board.now) }
-    requires order { IsFit order.now (places_on board.now) }
+    requires try_plan { IsFit try_plan.now (places_on board.now) }
     requires dim { (1 ≤ dim) × (dim ≤ 6) }
-    requires turned { (task : Task) × (s : Story) × IsTold order.now dim task × IsStoryOf task s × Turned s pass.old hold.old s.flips }
+    requires turned { (task : Task) × (s : StartedTry) × IsTold try_plan.now dim task × IsStartOf task s × Turned s pass.old hold.old s.flips }
     requires room { Roomy hold.old × (hold.old.flips.items ≡ []) }
     ensures same { IsSame pass.old pass.new }
     ensures kept { ((know pass.new).worker ≡ (know pass.old).worker) × ((know pass.new).start ≡ (know pass.old).start) × ((know pass.new).places ≡ (know pass.old).places) }
     ensures room { Roomy hold.new }
-    ensures turned { (task : Task) (s : Story) → IsTold order.now dim task → IsStoryOf task s → Turned s pass.old hold.old s.flips → OnOk result (Turned s pass.new hold.new []) }
+    ensures turned { (task : Task) (s : StartedTry) → IsTold try_plan.now dim task → IsStartOf task s → Turned s pass.old hold.old s.flips → OnOk result (Turned s pass.new hold.new []) }
     ensures few { length hold.new.flips.items ≤ 4 }
-    ensures ends { (task : Task) (s : Story) → IsTold order.now dim task → IsStoryOf task s → Turned s pass.old hold.old s.flips → IfErr result (Ended task s pass.new hold.new) }
+    ensures ends { (task : Task) (s : StartedTry) → IsTold try_plan.now dim task → IsStartOf task s → Turned s pass.old hold.old s.flips → IfErr result (Ended task s pass.new hold.new) }
     ensures later { G.quits gate.old ≤ G.quits gate.new }
     ensures quit { IfErr result (λ answer. answer ≡ Tried.Quit → G.quits gate.old < G.quits gate.new) }
     ensures heard { Follows (G.heard gate.old) (G.heard gate.new) (Keeps (fails is_quit result) (noted_in (know pass.old).tries) (noted_in (know pass.new).tries) (length hold.old.flips.items) (length hold.new.flips.items)) }
 {
-    for turn in 0..order.count {
-        let Some(flip) = propose(board, pass, alloc, order, turn) else {
+    for turn in 0..try_plan.count {
+        let Some(flip) = propose(board, pass, alloc, try_plan, turn) else {
             return Ok(());
         };
         if let Err(answer) = take_turn(board, pass, hold, alloc, gate, dim, &flip) {

@@ -8,7 +8,7 @@ ghost use Rattle.held_stars.specs.Holding.{Roomy};
 ghost use Rattle.round_rules.specs.Accounts.{GoesOn};
 
 use crate::attempting::try_at;
-use crate::turning::{Order, ask};
+use crate::turning::{TryPlan, ask};
 use anneal_plan::{Phase, Plan, draw};
 use held_stars::{Gate, Hold, Point};
 use round_rules::Tried;
@@ -149,14 +149,14 @@ impl Worker {
             return answer;
         }
         let alloc = *self.answers.allocator();
-        let order = Order {
+        let try_plan = TryPlan {
             phase,
             words,
             free: &self.free,
             count: 1 + words[7] % self.plan.depth(),
             place: self.live[words[0] as usize % self.live.len()],
         };
-        try_at(board, &mut self.pass, &mut self.hold, alloc, gate, &order)
+        try_at(board, &mut self.pass, &mut self.hold, alloc, gate, &try_plan)
     }
 
     /// Makes the tries of the plan, each with the next eight words of the worker's stream. It ends early

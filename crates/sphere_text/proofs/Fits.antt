@@ -7,7 +7,7 @@ use Rattle.std.specs.Cmp.{first_so, second_so}
 use Rattle.std.proofs.lemmas.Bool.Decides.{nat_tests}
 use Rattle.complex_core.specs.Labels.{IsFace}
 use Rattle.complex_core.specs.Maps.{IsMap, at, numbered, face_image, names_of, used, greatest, next_after}
-use Rattle.complex_core.specs.Spaces.{Space}
+use Rattle.complex_core.specs.Complexes.{ComplexView}
 use Rattle.complex_core.proofs.Sets.{each_rising, above_head, above_tail}
 use Rattle.complex_core.proofs.Sorting.{each_append}
 use Rattle.complex_core.proofs.Faces.{less_cmp}
@@ -49,17 +49,17 @@ numbered_at_most : (most k : ℕ) (xs : List ℕ) → AtMost most xs → AllByRe
 numbered_at_most most k [] h = tt
 numbered_at_most most k (x ∷ xs) h = (h.0, numbered_at_most most (k + 1) xs h.1)
 
-used_at_most : (k : Space) → KeepsLimits k → AtMost 60000 (used k.facets)
+used_at_most : (k : ComplexView) → KeepsLimits k → AtMost 60000 (used k.facets)
 used_at_most k h = each_rising nat_cmp (λ x. x ≤ 60000) (flat_map (λ f. f) k.facets) (flat_at_most 60000 k.facets h.small)
 
-pub greatest_at_most : (k : Space) → KeepsLimits k → greatest (used k.facets) ≤ 60000
+pub greatest_at_most : (k : ComplexView) → KeepsLimits k → greatest (used k.facets) ≤ 60000
 greatest_at_most k h = one_at_most 60000 (length (used k.facets) - 1) (used k.facets) (used_at_most k h)
 
 -- the names of places are at most this number
 abbrev pub AreSmall : List (ℕ × ℕ) → Type 0
 AreSmall m = AllByRecursion (λ p. p.1 ≤ 61024) m
 
-pub names_are_small : (k : Space) (room : ℕ) → KeepsLimits k → room ≤ 1024 → AreSmall (names_of k.facets room)
+pub names_are_small : (k : ComplexView) (room : ℕ) → KeepsLimits k → room ≤ 1024 → AreSmall (names_of k.facets room)
 names_are_small k room h r =
     let first : AtMost 61024 (used k.facets) = more_at_most 60000 61024 (used k.facets) (omega arith) (used_at_most k h) in
     let next : AtMost 61024 (next_after (greatest (used k.facets)) room) = next_at_most 61024 (greatest (used k.facets)) room (omega (arith, greatest_at_most k h, r)) in
@@ -91,13 +91,13 @@ all_allowed low (n ∷ ns) s h =
 side_fits : (g : List ℕ) → IsFace g → 0 < length g → length g ≤ 7 → AtMost 61024 g → IsSide (UpTo 65000) g
 side_fits g f some few h = record { low = some; high = few; rising = f.rising; allowed = all_allowed 0 g f.rising h }
 
-flip_fits : (m : List (ℕ × ℕ)) (k : Space) (f : Flip) → AreSmall m → k.dim ≤ 6 → Legal k f.a f.b → KeepsSizes f (named_flip m f) → HasSides (UpTo 65000) (named_flip m f)
+flip_fits : (m : List (ℕ × ℕ)) (k : ComplexView) (f : Flip) → AreSmall m → k.dim ≤ 6 → Legal k f.a f.b → KeepsSizes f (named_flip m f) → HasSides (UpTo 65000) (named_flip m f)
 flip_fits m k f s d l z = record {
   a = side_fits (face_image m f.a) z.faces.first (omega (arith, z.first, l.shape.first)) (omega (arith, z.first, l.shape.second, l.shape.sizes, d)) (image_small m f.a s);
   b = side_fits (face_image m f.b) z.faces.second (omega (arith, z.second, l.shape.second)) (omega (arith, z.second, l.shape.first, l.shape.sizes, d)) (image_small m f.b s);
 }
 
-pub flips_fit : (m : List (ℕ × ℕ)) (k end : Space) (flips : List Flip) → IsMap m → AreSmall m → k.dim ≤ 6 → IsDescent k flips end → takes_flips m flips ≡ true → AllByRecursion (HasSides (UpTo 65000)) (named_flips m flips)
+pub flips_fit : (m : List (ℕ × ℕ)) (k end : ComplexView) (flips : List Flip) → IsMap m → AreSmall m → k.dim ≤ 6 → IsDescent k flips end → takes_flips m flips ≡ true → AllByRecursion (HasSides (UpTo 65000)) (named_flips m flips)
 flips_fit m k end [] i s d h t = tt
 flips_fit m k end (f ∷ fs) i s d h t = (
   flip_fits m k f s d (legal k f.a f.b h.0.reduces.legal) (sizes_are_kept m f i h.0.reduces.faces (first_so (takes_flip m f) (takes_flips m fs) t)),

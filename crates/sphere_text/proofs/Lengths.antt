@@ -7,14 +7,14 @@ use Rattle.std.specs.Fmt.{decimal}
 use Rattle.std.proofs.lemmas.Bool.Decides.{nat_tests}
 use Rattle.std.proofs.lemmas.Fmt.{length-decimal-le}
 use Rattle.std.proofs.Math.Nat.{mul-suc}
-use Rattle.complex_core.specs.Spaces.{Space, IsFacet}
+use Rattle.complex_core.specs.Complexes.{ComplexView, IsFacet}
 use Rattle.facet_text.specs.Tokens.{between}
 use Rattle.facet_text.specs.Writing as facet
 use Rattle.facet_text.specs.Writing.{bracketed, facet_text}
 use Rattle.line_text.specs.Writing.{HasSides, flip_text, spaced, set_off}
 use Rattle.line_text.specs.Labels.{allows}
 use Rattle.line_text.specs.declared.label.Labels.TheVariants.{UpTo}
-use Rattle.cert_text.specs.Claims.{Sphere}
+use Rattle.cert_text.specs.Statements.{Sphere}
 use Rattle.cert_text.specs.Writing.{text_of, flips_text, number_line, flip_line_text, AreFlips}
 use Rattle.flip_rules.specs.declared.flip.Flip.{Flip}
 use Rattle.sphere_text.specs.Texts.{CertifiedIsShort}
@@ -50,7 +50,7 @@ short_facets : (d : ℕ) (fs : List (List ℕ)) → d ≤ 6 → AllByRecursion (
 short_facets d [] l i h = tt
 short_facets d (f ∷ fs) l i h = (short_facet d f l i.0 h.0, short_facets d fs l i.1 h.1)
 
-short_complex : (k : Space) → facet.KeepsLimits k → length (facet.text_of k.facets) ≤ 900002
+short_complex : (k : ComplexView) → facet.KeepsLimits k → length (facet.text_of k.facets) ≤ 900002
 unfolding facet.text_of
 short_complex k h =
     omega (arith, in_brackets 44 (map facet_text k.facets) (short_facets k.dim k.facets h.complex.low h.complex.pure h.small), length-map k.facets facet_text, h.few_facets)

@@ -1,7 +1,7 @@
 -- The text of a complex and of a certificate behind it is read again.
 use Rattle.std.proofs.Common.{◌≡◌, ℕ, ◌+◌, List, [], ◌∷◌, ◌++◌, length, drop, Ok, refl, sym, ◌∙◌, ap, append_assoc, length-append, arith}
 use Rattle.std.proofs.lemmas.List.{drop_at}
-use Rattle.complex_core.specs.Spaces.{Space}
+use Rattle.complex_core.specs.Complexes.{ComplexView}
 use Rattle.facet_text.specs.Grammar.{complex_at}
 use Rattle.facet_text.specs.Lines.{Item, items_past, line_end}
 use Rattle.facet_text.specs.Tokens.{has}
@@ -11,7 +11,7 @@ use Rattle.facet_text.proofs.Again.{read_again}
 use Rattle.facet_text.proofs.LineLaws.{some_item}
 use Rattle.line_text.specs.Numbers.{line_start}
 use Rattle.line_text.proofs.Again.{feed_first}
-use Rattle.cert_text.specs.Claims.{Sphere}
+use Rattle.cert_text.specs.Statements.{Sphere}
 use Rattle.cert_text.specs.Grammar.{certificate_at, header_at, body_at}
 use Rattle.cert_text.specs.Readings.{◌>>=◌}
 use Rattle.cert_text.specs.Writing.{text_of, AreFlips}
@@ -40,13 +40,13 @@ no_semicolon : (flips : List Flip) → to_semicolon (10 ∷ text_of (Sphere flip
 unfolding text_of has
 no_semicolon flips = refl
 
-complex_again : (k : Space) (flips : List Flip) → facet.KeepsLimits k → complex_at (certified k flips) 0 ≡ Ok (k, length (facet.text_of k.facets))
+complex_again : (k : ComplexView) (flips : List Flip) → facet.KeepsLimits k → complex_at (certified k flips) 0 ≡ Ok (k, length (facet.text_of k.facets))
 complex_again k flips keeps =
     let after : List ℕ = 10 ∷ text_of (Sphere flips) in
-    let place : length (facet.text_of k.facets) ≡ 0 + length (facet.text_of k.facets) + to_semicolon after = omega (arith, no_semicolon flips) in
-    read_again [] after k keeps ∙ ap (λ (p : ℕ). Ok (k, p)) (sym place)
+    let offset : length (facet.text_of k.facets) ≡ 0 + length (facet.text_of k.facets) + to_semicolon after = omega (arith, no_semicolon flips) in
+    read_again [] after k keeps ∙ ap (λ (p : ℕ). Ok (k, p)) (sym offset)
 
-behind_complex : (k : Space) (flips : List Flip) → AreFlips flips → certificate_at (certified k flips) (length (facet.text_of k.facets)) ≡ Ok (Sphere flips)
+behind_complex : (k : ComplexView) (flips : List Flip) → AreFlips flips → certificate_at (certified k flips) (length (facet.text_of k.facets)) ≡ Ok (Sphere flips)
 behind_complex k flips good =
     let text : List ℕ = facet.text_of k.facets in
     let rest : List ℕ = text_of (Sphere flips) in
@@ -61,4 +61,4 @@ behind_complex k flips good =
     ∙ certificate_again fed (Sphere flips) good
 
 pub certified_is_read : CertifiedIsRead
-certified_is_read k flips keeps good = record { place = length (facet.text_of k.facets); complex = complex_again k flips keeps; certificate = behind_complex k flips good }
+certified_is_read k flips keeps good = record { offset = length (facet.text_of k.facets); complex = complex_again k flips keeps; certificate = behind_complex k flips good }

@@ -3,7 +3,7 @@ use Rattle.std.proofs.Common.{◌≡◌, ℕ, ◌≤◌, true, List, [], ◌∷�
 use Rattle.std.proofs.lemmas.List.{length-map}
 use Rattle.std.specs.List.{AllByRecursion}
 use Rattle.complex_core.specs.Maps.{turned, names_of, face_image, face_images}
-use Rattle.complex_core.specs.Spaces.{Space}
+use Rattle.complex_core.specs.Complexes.{ComplexView}
 use Rattle.flip_rules.specs.Flips.{flipped}
 use Rattle.flip_rules.specs.Certificates.{SphereCert}
 use Rattle.flip_rules.specs.declared.flip.Flip.{Flip}
@@ -15,17 +15,17 @@ use Rattle.descent_laws.specs.Descents.{IsDescent}
 use Rattle.descent_laws.specs.Laws.{Descends}
 use Rattle.descent_laws.proofs.DescentRuns.{descent_descends}
 use Rattle.descent_laws.proofs.Reducing.{two_at_least}
-use Rattle.sphere_text.specs.Claims.{placed, named, DescentIsShown}
+use Rattle.sphere_text.specs.Statements.{placed, named, DescentIsShown}
 use Rattle.sphere_text.proofs.Grounds.{Ground, ground}
 use Rattle.sphere_text.proofs.Fits.{names_are_small, flips_fit}
 use Rattle.complex_core.proofs.SetLists.{rising_length}
 
 -- each flip of a descent has a B of two labels or more
-pub all_reduce : (k end : Space) (flips : List Flip) → IsDescent k flips end → AllByRecursion HasPositiveIndex flips
+pub all_reduce : (k end : ComplexView) (flips : List Flip) → IsDescent k flips end → AllByRecursion HasPositiveIndex flips
 all_reduce k end [] d = tt
 all_reduce k end (f ∷ fs) d = (two_at_least k f d.0.reduces, all_reduce (flipped k f.a f.b) end fs d.1)
 
-pub placed_length : (k : Space) (room : ℕ) → length (placed k room).facets ≤ length k.facets
+pub placed_length : (k : ComplexView) (room : ℕ) → length (placed k room).facets ≤ length k.facets
 placed_length k room =
     let m : List (ℕ × ℕ) = turned (names_of k.facets room) in
     omega (arith, rising_length (face_images m k.facets), length-map k.facets (face_image m))
@@ -38,7 +38,7 @@ descent_is_shown k room flips end limits small d =
     let t : takes_flips m flips ≡ true = reducing_flips_taken m (placed k room) end flips g.here.taken s.faces (all_reduce (placed k room) end flips d) s.replays in
     let few : length flips ≤ length k.facets = omega (arith, s.falls, placed_length k room) in
     let a : RenamesAll m (placed k room) flips = record { complex = g.here; faces = s.faces; taken = t } in
-    let P : Space → Type 0 = λ l. SphereCert l (named k room flips) in
+    let P : ComplexView → Type 0 = λ l. SphereCert l (named k room flips) in
     record {
       start = g.back;
       replays = s.replays;

@@ -1,3 +1,3 @@
 -- The text of a complex and of a certificate that it is a sphere.
 pub mod Texts
-pub mod Claims
+pub mod Statements

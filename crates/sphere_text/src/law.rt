@@ -1,6 +1,6 @@
 // Laws of the definitions.
 ghost use Rattle.sphere_text.specs.Texts.{CertifiedIsRead, CertifiedIsShort};
-ghost use Rattle.sphere_text.specs.Claims.{DescentIsShown, CycleIsDecided};
+ghost use Rattle.sphere_text.specs.Statements.{DescentIsShown, CycleIsDecided};
 
 /// The text of a complex and of a certificate behind it is read again, where both keep the limits of texts. It has at most
 /// 4,194,304 bytes where there are at most 20,000 flips.

@@ -7,15 +7,15 @@ use Rattle.std.specs.Cmp.Lexicographic.{pointwise, nat_list_cmp_total}
 use Rattle.std.proofs.lemmas.List.Kept.{IsStrictlySortedBy-filter}
 use Rattle.complex_core.specs.Labels.{has, holds, without, face_cmp}
 use Rattle.complex_core.specs.Rising.{rising}
-use Rattle.complex_core.specs.Spaces.{Space, over, beside, is_held}
+use Rattle.complex_core.specs.Complexes.{ComplexView, over, beside, is_held}
 use Rattle.complex_core.proofs.Sets.{sorted_rising}
 use Rattle.complex_core.proofs.Laws.{has-union, has-without, holds_has, found, or_left, nat_eq_same, listed, same_sets_is, listed-append, listed-filter, listed-rising, same_lists}
-use Rattle.flip_rules.specs.Flips.{sides, has_shape, same_sets, why, flipped, Legal}
+use Rattle.flip_rules.specs.Flips.{join_boundary, has_shape, same_sets, broken_rule, flipped, Legal}
 use Rattle.flip_rules.specs.declared.flip.Illegal.TheVariants.{Shape}
-use Rattle.flip_rules.proofs.Links.{side, listed-sides, listed-flipped}
+use Rattle.flip_rules.proofs.Links.{side, listed-join_boundary, listed-flipped}
 use Rattle.flip_rules.proofs.Legal.{legal, verdict}
 use Rattle.star_laws.specs.Stars.{star, Rises, AlikeOn, star_after}
-use Rattle.star_laws.specs.Laws.{FlipKeepsStars, WhySeenOnStars, StarAfterFlip, FlipOnAlike}
+use Rattle.star_laws.specs.Laws.{FlipKeepsStars, BrokenRuleSeenOnStars, StarAfterFlip, FlipOnAlike}
 use Rattle.std.proofs.lemmas.Bool.{or_from, and_left}
 
 -- ---- what contains A lies in the star of each label of A
@@ -60,12 +60,12 @@ held_seen fs gs a x t e =
 
 -- ---- legality
 
-pub why_seen : WhySeenOnStars
-why_seen k l a b x y d t s e g =
-    ap (λ n. verdict (has_shape n a b) (is_held k.facets a) (same_sets (over k.facets a) (rising face_cmp (sides a b))) (is_held k.facets b)) d
-    ∙ ap (λ c. verdict (has_shape l.dim a b) c (same_sets (over k.facets a) (rising face_cmp (sides a b))) (is_held k.facets b)) (held_seen k.facets l.facets a x t e)
-    ∙ ap (λ fs. verdict (has_shape l.dim a b) (is_held l.facets a) (same_sets fs (rising face_cmp (sides a b))) (is_held k.facets b)) (over_seen k.facets l.facets a x t e)
-    ∙ ap (λ c. verdict (has_shape l.dim a b) (is_held l.facets a) (same_sets (over l.facets a) (rising face_cmp (sides a b))) c) (held_seen k.facets l.facets b y s g)
+pub broken_rule_seen : BrokenRuleSeenOnStars
+broken_rule_seen k l a b x y d t s e g =
+    ap (λ n. verdict (has_shape n a b) (is_held k.facets a) (same_sets (over k.facets a) (rising face_cmp (join_boundary a b))) (is_held k.facets b)) d
+    ∙ ap (λ c. verdict (has_shape l.dim a b) c (same_sets (over k.facets a) (rising face_cmp (join_boundary a b))) (is_held k.facets b)) (held_seen k.facets l.facets a x t e)
+    ∙ ap (λ fs. verdict (has_shape l.dim a b) (is_held l.facets a) (same_sets fs (rising face_cmp (join_boundary a b))) (is_held k.facets b)) (over_seen k.facets l.facets a x t e)
+    ∙ ap (λ c. verdict (has_shape l.dim a b) (is_held l.facets a) (same_sets (over l.facets a) (rising face_cmp (join_boundary a b))) c) (held_seen k.facets l.facets b y s g)
 
 -- ---- the star after
 
@@ -88,8 +88,8 @@ kept_first false false true false = refl
 kept_first false false false true = refl
 kept_first false false false false = refl
 
-pub rises_flipped : (k : Space) (a b : List ℕ) → Rises (flipped k a b)
-rises_flipped k a b = sorted_rising nat_list_cmp_total (beside k.facets a ++ sides b a)
+pub rises_flipped : (k : ComplexView) (a b : List ℕ) → Rises (flipped k a b)
+rises_flipped k a b = sorted_rising nat_list_cmp_total (beside k.facets a ++ join_boundary b a)
 
 pub star_rises : (facets : List (List ℕ)) (p : ℕ) → IsStrictlySortedBy face_cmp facets → IsStrictlySortedBy face_cmp (star facets p)
 star_rises facets p s = IsStrictlySortedBy-filter face_cmp (λ f. holds f (p ∷ [])) facets s
@@ -97,21 +97,21 @@ star_rises facets p s = IsStrictlySortedBy-filter face_cmp (λ f. holds f (p ∷
 pub star_flipped : StarAfterFlip
 star_flipped k a b p = same_lists (star (flipped k a b).facets p) (star_after (star k.facets p) a b p)
     (star_rises (flipped k a b).facets p (rises_flipped k a b))
-    (sorted_rising nat_list_cmp_total (beside (star k.facets p) a ++ star (sides b a) p))
+    (sorted_rising nat_list_cmp_total (beside (star k.facets p) a ++ star (join_boundary b a) p))
     (λ f. let t : Bool = holds f (p ∷ []) in
     listed-filter (λ g. holds g (p ∷ [])) (flipped k a b).facets f
     ∙ ap (λ c. c && holds f (p ∷ [])) (listed-flipped k a b f)
-    ∙ kept_first (listed k.facets f) (holds f a) (listed (sides b a) f) (holds f (p ∷ []))
-    ∙ sym (listed-rising (beside (star k.facets p) a ++ star (sides b a) p) f
-    ∙ listed-append (beside (star k.facets p) a) (star (sides b a) p) f
-    ∙ (λ i. (listed-filter (λ g. not (holds g a)) (star k.facets p) f ∙ ap (λ c. c && not (holds f a)) (listed-filter (λ g. holds g (p ∷ [])) k.facets f)) i || listed-filter (λ g. holds g (p ∷ [])) (sides b a) f i)))
+    ∙ kept_first (listed k.facets f) (holds f a) (listed (join_boundary b a) f) (holds f (p ∷ []))
+    ∙ sym (listed-rising (beside (star k.facets p) a ++ star (join_boundary b a) p) f
+    ∙ listed-append (beside (star k.facets p) a) (star (join_boundary b a) p) f
+    ∙ (λ i. (listed-filter (λ g. not (holds g a)) (star k.facets p) f ∙ ap (λ c. c && not (holds f a)) (listed-filter (λ g. holds g (p ∷ [])) k.facets f)) i || listed-filter (λ g. holds g (p ∷ [])) (join_boundary b a) f i)))
 
 -- ---- the stars of other labels
 
 -- a side has no other labels
-lacks_other : (a b : List ℕ) (p : ℕ) (f : List ℕ) → has a p ≡ false → has b p ≡ false → listed (sides a b) f ≡ true → holds f (p ∷ []) ≡ false
+lacks_other : (a b : List ℕ) (p : ℕ) (f : List ℕ) → has a p ≡ false → has b p ≡ false → listed (join_boundary a b) f ≡ true → holds f (p ∷ []) ≡ false
 lacks_other a b p f na nb t =
-    let r : (x : ℕ) × (has b x ≡ true) × (pointwise nat_eq (side a b x) f ≡ true) = found (λ x. pointwise nat_eq (side a b x) f) b (sym (listed-sides a b b f) ∙ t) in
+    let r : (x : ℕ) × (has b x ≡ true) × (pointwise nat_eq (side a b x) f ≡ true) = found (λ x. pointwise nat_eq (side a b x) f) b (sym (listed-join_boundary a b b f) ∙ t) in
     let e : side a b r.0 ≡ f = same_sets_is (side a b r.0) f r.2 in
     and_left (has f p) true (ap (λ g. has g p) (sym e) ∙ has-union a (without b r.0) p ∙ or_from (has a p) (has (without b r.0) p) na (has-without b r.0 p ∙ and_left (has b p) (not (nat_eq p r.0)) nb))
 
@@ -131,9 +131,9 @@ other_star k a b p s e na nb =
     same_lists (star (flipped k a b).facets p) (star k.facets p) (star_rises (flipped k a b).facets p (rises_flipped k a b)) (star_rises k.facets p s) (λ f.
     listed-filter (λ g. holds g (p ∷ [])) (flipped k a b).facets f
     ∙ ap (λ c. c && holds f (p ∷ [])) (listed-flipped k a b f)
-    ∙ other_row (listed k.facets f) (holds f a) (listed (sides b a) f) (holds f (p ∷ []))
+    ∙ other_row (listed k.facets f) (holds f a) (listed (join_boundary b a) f) (holds f (p ∷ []))
     (lacks_other b a p f nb na)
-    (λ t. lacks_other a b p f na nb (sym (listed-rising (sides a b) f) ∙ ap (λ fs. listed fs f) (sym l.link) ∙ listed-filter (λ g. holds g a) k.facets f ∙ t))
+    (λ t. lacks_other a b p f na nb (sym (listed-rising (join_boundary a b) f) ∙ ap (λ fs. listed fs f) (sym l.link) ∙ listed-filter (λ g. holds g a) k.facets f ∙ t))
     ∙ sym (listed-filter (λ g. holds g (p ∷ [])) k.facets f))
 
 -- ---- complexes that are alike
@@ -146,25 +146,25 @@ no_shape d (x ∷ xs) = and_false (not (nat_eq (length (x ∷ xs)) 0))
     and_false true = refl
     and_false false = refl
 
-empty_first : (k : Space) (b : List ℕ) → why k [] b ≡ Err Shape
+empty_first : (k : ComplexView) (b : List ℕ) → broken_rule k [] b ≡ Err Shape
 empty_first k b = refl
 
-empty_second : (k : Space) (a : List ℕ) → why k a [] ≡ Err Shape
-empty_second k a = ap (λ c. verdict c (is_held k.facets a) (same_sets (over k.facets a) (rising face_cmp (sides a []))) (is_held k.facets [])) (no_shape k.dim a)
+empty_second : (k : ComplexView) (a : List ℕ) → broken_rule k a [] ≡ Err Shape
+empty_second k a = ap (λ c. verdict c (is_held k.facets a) (same_sets (over k.facets a) (rising face_cmp (join_boundary a []))) (is_held k.facets [])) (no_shape k.dim a)
 
-pub why_alike : (held : ℕ → Bool) (k l : Space) (a b : List ℕ) → AlikeOn held k l → ((p : ℕ) → has a p ≡ true → held p ≡ true) → ((p : ℕ) → has b p ≡ true → held p ≡ true) → why k a b ≡ why l a b
-why_alike held k l [] b h ha hb = empty_first k b ∙ sym (empty_first l b)
-why_alike held k l (x ∷ xs) [] h ha hb = empty_second k (x ∷ xs) ∙ sym (empty_second l (x ∷ xs))
-why_alike held k l (x ∷ xs) (y ∷ ys) h ha hb =
+pub broken_rule_alike : (held : ℕ → Bool) (k l : ComplexView) (a b : List ℕ) → AlikeOn held k l → ((p : ℕ) → has a p ≡ true → held p ≡ true) → ((p : ℕ) → has b p ≡ true → held p ≡ true) → broken_rule k a b ≡ broken_rule l a b
+broken_rule_alike held k l [] b h ha hb = empty_first k b ∙ sym (empty_first l b)
+broken_rule_alike held k l (x ∷ xs) [] h ha hb = empty_second k (x ∷ xs) ∙ sym (empty_second l (x ∷ xs))
+broken_rule_alike held k l (x ∷ xs) (y ∷ ys) h ha hb =
     let p : has (x ∷ xs) x ≡ true = or_left (nat_eq x x) (has xs x) (nat_eq_same x) in
     let q : has (y ∷ ys) y ≡ true = or_left (nat_eq y y) (has ys y) (nat_eq_same y) in
-    why_seen k l (x ∷ xs) (y ∷ ys) x y h.dim p q (h.stars x (ha x p)) (h.stars y (hb y q))
+    broken_rule_seen k l (x ∷ xs) (y ∷ ys) x y h.dim p q (h.stars x (ha x p)) (h.stars y (hb y q))
 
-pub alike_after : (held : ℕ → Bool) (k l : Space) (a b : List ℕ) → AlikeOn held k l → AlikeOn held (flipped k a b) (flipped l a b)
+pub alike_after : (held : ℕ → Bool) (k l : ComplexView) (a b : List ℕ) → AlikeOn held k l → AlikeOn held (flipped k a b) (flipped l a b)
 alike_after held k l a b h = record {
   dim = h.dim;
   stars = λ p t. star_flipped k a b p ∙ ap (λ rows. star_after rows a b p) (h.stars p t) ∙ sym (star_flipped l a b p);
 }
 
 pub flip_alike : FlipOnAlike
-flip_alike held k l a b h ha hb = record { why = why_alike held k l a b h ha hb; after = alike_after held k l a b h }
+flip_alike held k l a b h ha hb = record { broken_rule = broken_rule_alike held k l a b h ha hb; after = alike_after held k l a b h }

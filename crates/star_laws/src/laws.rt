@@ -1,4 +1,4 @@
-ghost use Rattle.star_laws.specs.Laws.{FlipKeepsStars, WhySeenOnStars, StarAfterFlip, FlipOnAlike, ReplayOnAlike, ReplayKeepsStars, StarAfterReplay};
+ghost use Rattle.star_laws.specs.Laws.{FlipKeepsStars, BrokenRuleSeenOnStars, StarAfterFlip, FlipOnAlike, ReplayOnAlike, ReplayKeepsStars, StarAfterReplay};
 
 /// A legal flip changes no star of a label outside A ∪ B.
 pub fn flip_keeps_stars()
@@ -7,8 +7,8 @@ pub fn flip_keeps_stars()
 
 /// Whether a flip is legal, and else the first rule that it breaks, is seen in the star of one
 /// label of A and the star of one label of B.
-pub fn why_seen_on_stars()
-    ensures { WhySeenOnStars }
+pub fn broken_rule_seen_on_stars()
+    ensures { BrokenRuleSeenOnStars }
 {}
 
 /// The star of a label after a flip is its star before, without the rows that contain A, and with

@@ -5,7 +5,7 @@ use Rattle.std.specs.Cmp.{first_so, second_so}
 use Rattle.std.specs.Cmp.Derive.{both_true}
 use Rattle.std.proofs.lemmas.Bool.Decides.{nat_tests}
 use Rattle.complex_core.specs.Labels.{has, holds}
-use Rattle.complex_core.specs.Spaces.{Space}
+use Rattle.complex_core.specs.Complexes.{ComplexView}
 use Rattle.complex_core.proofs.Laws.{listed, passes_listed, each_listed, each_has}
 use Rattle.flip_rules.specs.declared.flip.Flip.{Flip}
 use Rattle.stars.specs.StarViews.{VertexStar, StarList, UsesUpTo, vertices, places_in, HasLabels, OnPlaces}
@@ -27,7 +27,7 @@ up_to_each : (n : ℕ) (xs : List ℕ) → AllByRecursion (λ x. x ≤ n) xs →
 up_to_each n [] h = refl
 up_to_each n (x ∷ xs) h = both_true (le-leb x n h.0) (up_to_each n xs h.1)
 
-pub uses_told : (k : Space) (n : ℕ) (facets : List (List ℕ)) (t : Bool) → facets ≡ k.facets → t ≡ list_all (λ f. list_all (λ x. nat_le x n) f) facets → (IsTrue t → UsesUpTo k n) × (UsesUpTo k n → IsTrue t)
+pub uses_told : (k : ComplexView) (n : ℕ) (facets : List (List ℕ)) (t : Bool) → facets ≡ k.facets → t ≡ list_all (λ f. list_all (λ x. nat_le x n) f) facets → (IsTrue t → UsesUpTo k n) × (UsesUpTo k n → IsTrue t)
 uses_told k n facets t e r = (
   λ h. uses_from k n (λ f p l i. has_bound n f p (each_up_to n f (passes_listed (up_to n) facets f (sym r ∙ h) (ap (λ fs. listed fs f) e ∙ l))) i),
   λ h. r ∙ each_listed (up_to n) facets (λ f l. each_has (λ x. nat_le x n) f (λ p i. le-leb p n (uses_of k n f p h (ap (λ fs. listed fs f) (sym e) ∙ l) i))),

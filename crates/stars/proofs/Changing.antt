@@ -10,14 +10,14 @@ use Rattle.std.proofs.lemmas.Bool.{true≢false, ne_eqb}
 use Rattle.std.proofs.lemmas.List.{same_lists, get_or-map, length-map, length-set, get_or-set_same, get_or-set_other, get_or_default, set-set, set-get_or}
 use Rattle.complex_core.specs.Labels.{IsRising, has, holds, face_cmp}
 use Rattle.complex_core.specs.Rising.{rising}
-use Rattle.complex_core.specs.Spaces.{IsFacet, staying, is_facet}
+use Rattle.complex_core.specs.Complexes.{IsFacet, staying, is_facet}
 use Rattle.complex_core.proofs.Sets.{above_head, above_tail, each_rising, sorted_rising}
 use Rattle.complex_core.proofs.Sorting.{each_append, each_filter}
 use Rattle.complex_core.proofs.Laws.{above_not, nat_eq_is, or_left}
 use Rattle.star_laws.specs.Stars.{star}
 use Rattle.stars.specs.StarViews.{VertexStar, IsStar, vertices}
 use Rattle.stars.specs.Changes.{star_changed, stars_changed, CanChange, IsWithin}
-use Rattle.stars.specs.Lists.{ChangedWithin}
+use Rattle.stars.specs.CandidateLists.{ChangedWithin}
 use Rattle.stars.proofs.Staying.{changed_within}
 use Rattle.stars.proofs.Finding.{one_place, each_at}
 

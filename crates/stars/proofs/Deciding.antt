@@ -6,11 +6,11 @@ use Rattle.std.specs.Result.{is_ok}
 use Rattle.std.proofs.lemmas.List.{take_all}
 use Rattle.complex_core.specs.Labels.{has}
 use Rattle.complex_core.specs.Subsets.{subsets_of}
-use Rattle.flip_rules.specs.Flips.{why_near}
+use Rattle.flip_rules.specs.Flips.{broken_rule_near}
 use Rattle.flip_rules.specs.declared.flip.Flip.{Flip}
 use Rattle.stars.specs.StarViews.{VertexStar, IsStar}
 use Rattle.stars.specs.Candidates.{flip_of, opposite, is_candidate, flip_at}
-use Rattle.stars.specs.Lists.{belongs, candidates_within}
+use Rattle.stars.specs.CandidateLists.{belongs, candidates_within}
 use Rattle.stars.proofs.Gathered.{judged}
 
 -- ---- one face
@@ -22,7 +22,7 @@ some_if false f = refl
 pub told : (s : VertexStar) (f : List ℕ) (d : ℕ) (rows : List (List ℕ)) (o : Option Flip) (r : Bool) → IsStar s → 1 ≤ length f → length f ≤ s.dim → d ≡ s.dim → rows ≡ s.rows → o ≡ flip_at d rows f → r ≡ is_some o → r ≡ is_candidate s.rows (s.dim + 2 - length f) f
 told s f d rows o r h some small ed er e is =
     is ∙ ap is_some (e ∙ (λ j. flip_at (ed j) (er j) f))
-    ∙ some_if (is_ok (why_near s.dim s.rows [] f (opposite s.rows f))) (flip_of f (opposite s.rows f))
+    ∙ some_if (is_ok (broken_rule_near s.dim s.rows [] f (opposite s.rows f))) (flip_of f (opposite s.rows f))
     ∙ judged s.dim s.rows f h.rising some small
 
 -- ---- all subsets

@@ -5,11 +5,11 @@ use Rattle.std.proofs.lemmas.List.{length-map}
 use Rattle.complex_core.specs.Labels.{IsFace, IsRising, has, holds, union, without, face_cmp}
 use Rattle.std.specs.Ordering.{nat_cmp}
 use Rattle.complex_core.specs.Rising.{rising}
-use Rattle.complex_core.specs.Spaces.{Space, IsComplex, IsFacet, over, beside, staying, is_facet}
+use Rattle.complex_core.specs.Complexes.{ComplexView, IsComplex, IsFacet, over, beside, staying, is_facet}
 use Rattle.complex_core.proofs.Sets.{above_tail}
 use Rattle.std.specs.Cmp.{first_so}
 use Rattle.complex_core.proofs.Laws.{has-union, has-without, holds_each, holds_has, length_union_le}
-use Rattle.flip_rules.specs.Flips.{why, flipped, sides, Legal, CanPut, OfFaces}
+use Rattle.flip_rules.specs.Flips.{broken_rule, flipped, join_boundary, Legal, CanPut, OfFaces}
 use Rattle.flip_rules.proofs.Legal.{legal}
 use Rattle.flip_rules.proofs.Links.{staying_sides}
 use Rattle.flip_rules.proofs.Replays.{complex_flipped}
@@ -44,9 +44,9 @@ filter_swap p q (f ∷ fs) = both (filter_swap p q fs) (p f) (q f) refl refl
         ∙ sym (ap (λ t. filter q (cond t (f ∷ filter p fs) (filter p fs))) e)
 
 -- to take the sides out of a star is to take out its rows that contain A
-staying_star : (fs : List (List ℕ)) (a b : List ℕ) (v : ℕ) → over fs a ≡ rising face_cmp (sides a b) → staying (star fs v) (sides a b) ≡ beside (star fs v) a
+staying_star : (fs : List (List ℕ)) (a b : List ℕ) (v : ℕ) → over fs a ≡ rising face_cmp (join_boundary a b) → staying (star fs v) (join_boundary a b) ≡ beside (star fs v) a
 staying_star fs a b v e =
-    filter_swap (λ f. not (is_facet (sides a b) f)) (λ f. holds f (v ∷ [])) fs
+    filter_swap (λ f. not (is_facet (join_boundary a b) f)) (λ f. holds f (v ∷ [])) fs
     ∙ ap (λ gs. star gs v) (staying_sides fs a b e)
     ∙ filter_swap (λ f. holds f (v ∷ [])) (λ f. not (holds f a)) fs
 
@@ -55,7 +55,7 @@ staying_star fs a b v e =
 pub union_fits : (d : ℕ) (a b : List ℕ) → CanPut d a b → length (union a b) ≤ 8
 union_fits d a b p = omega (arith, p.few, length_union_le a b)
 
-all_dims : (near : List VertexStar) (k : Space) (more : List (List ℕ)) → AllByRecursion (IsStarOf k) near → AllByRecursion (IsFacet k.dim) more → AllByRecursion (λ d. AllByRecursion (IsFacet d) more) (map (λ (s : VertexStar). s.dim) near)
+all_dims : (near : List VertexStar) (k : ComplexView) (more : List (List ℕ)) → AllByRecursion (IsStarOf k) near → AllByRecursion (IsFacet k.dim) more → AllByRecursion (λ d. AllByRecursion (IsFacet d) more) (map (λ (s : VertexStar). s.dim) near)
 all_dims [] k more h p = tt
 all_dims (s ∷ near) k more h p = (let P : ℕ → Type 0 = λ d. AllByRecursion (IsFacet d) more in subst P (sym h.0.dim) p, all_dims near k more h.1 p)
 
@@ -66,7 +66,7 @@ labels_held vs a b p q = holds_each vs (union a b) (λ z t. either (has a z) (ha
     either true y z h f g = f refl
     either false y z h f g = g h
 
-pub can_change : (k : Space) (near : List VertexStar) (f : Flip) (labels : List ℕ) (more : List (List ℕ)) → AreStarsOf k near → HasLabels near f → CanPut k.dim f.a f.b → IsFace labels → labels ≡ union f.a f.b → more ≡ sides f.b f.a → CanChange near labels more
+pub can_change : (k : ComplexView) (near : List VertexStar) (f : Flip) (labels : List ℕ) (more : List (List ℕ)) → AreStarsOf k near → HasLabels near f → CanPut k.dim f.a f.b → IsFace labels → labels ≡ union f.a f.b → more ≡ join_boundary f.b f.a → CanChange near labels more
 can_change k near f labels more h held put face el em =
     let P : List (List ℕ) → Type 0 = λ fs. CanChange near labels fs in
     subst P (sym em) (record {
@@ -74,7 +74,7 @@ can_change k near f labels more h held put face el em =
       labels_rise = above_tail nat_cmp 0 labels face.rising;
       held = ap (holds (vertices near)) el ∙ labels_held (vertices near) f.a f.b held.first held.second;
       few = omega (arith, put.few, length-map f.a (λ x. union f.b (without f.a x)));
-      pure = all_dims near k (sides f.b f.a) h.each put.pure;
+      pure = all_dims near k (join_boundary f.b f.a) h.each put.pure;
     })
 
 -- what it takes out and puts in lies within its labels
@@ -103,34 +103,34 @@ all_turned : (a b : List ℕ) (fs : List (List ℕ)) → AreWithin (union b a) f
 all_turned a b [] h = tt
 all_turned a b (f ∷ fs) h = (turned_within a b f h.0, all_turned a b fs h.1)
 
-pub change_within : (a b labels : List ℕ) (out more : List (List ℕ)) → IsFace labels → labels ≡ union a b → out ≡ sides a b → more ≡ sides b a → IsWithin labels out more
+pub change_within : (a b labels : List ℕ) (out more : List (List ℕ)) → IsFace labels → labels ≡ union a b → out ≡ join_boundary a b → more ≡ join_boundary b a → IsWithin labels out more
 change_within a b labels out more face el eo em =
     let P : List ℕ → List (List ℕ) → Type 0 = λ ls fs. AreWithin ls fs in
     record {
       rising = above_tail nat_cmp 0 labels face.rising;
       gone = subst (λ ls. P ls out) (sym el) (subst (P (union a b)) (sym eo) (sides_within a b b));
-      come = subst (λ ls. P ls more) (sym el) (subst (P (union a b)) (sym em) (all_turned a b (sides b a) (sides_within b a a)));
+      come = subst (λ ls. P ls more) (sym el) (subst (P (union a b)) (sym em) (all_turned a b (join_boundary b a) (sides_within b a a)));
     }
 
 -- ---- what it makes
 
-one_flipped : (k : Space) (a b labels : List ℕ) (s : VertexStar) → Legal k a b → IsStarOf k s → labels ≡ union a b → (if has labels s.vertex then star_changed (sides a b) (sides b a) s else s) ≡ star_flipped a b s
+one_flipped : (k : ComplexView) (a b labels : List ℕ) (s : VertexStar) → Legal k a b → IsStarOf k s → labels ≡ union a b → (if has labels s.vertex then star_changed (join_boundary a b) (join_boundary b a) s else s) ≡ star_flipped a b s
 one_flipped k a b labels s l h e =
-    ap (λ t. cond t (star_changed (sides a b) (sides b a) s) s) (ap (λ xs. has xs s.vertex) e ∙ has-union a b s.vertex)
+    ap (λ t. cond t (star_changed (join_boundary a b) (join_boundary b a) s) s) (ap (λ xs. has xs s.vertex) e ∙ has-union a b s.vertex)
     ∙ by_test (has a s.vertex || has b s.vertex)
   where
-    rows : staying s.rows (sides a b) ≡ beside s.rows a
-    rows = ap (λ fs. staying fs (sides a b)) h.rows ∙ staying_star k.facets a b s.vertex l.link ∙ ap (λ fs. beside fs a) (sym h.rows)
+    rows : staying s.rows (join_boundary a b) ≡ beside s.rows a
+    rows = ap (λ fs. staying fs (join_boundary a b)) h.rows ∙ staying_star k.facets a b s.vertex l.link ∙ ap (λ fs. beside fs a) (sym h.rows)
 
-    by_test : (t : Bool) → cond t (star_changed (sides a b) (sides b a) s) s ≡ record s { rows = cond t (star_after s.rows a b s.vertex) s.rows }
-    by_test true = λ i. record s { rows = rising face_cmp (rows i ++ star (sides b a) s.vertex) }
+    by_test : (t : Bool) → cond t (star_changed (join_boundary a b) (join_boundary b a) s) s ≡ record s { rows = cond t (star_after s.rows a b s.vertex) s.rows }
+    by_test true = λ i. record s { rows = rising face_cmp (rows i ++ star (join_boundary b a) s.vertex) }
     by_test false = refl
 
-all_flipped : (k : Space) (near : List VertexStar) (a b labels : List ℕ) → Legal k a b → AllByRecursion (IsStarOf k) near → labels ≡ union a b → stars_changed near labels (sides a b) (sides b a) ≡ stars_flipped near a b
+all_flipped : (k : ComplexView) (near : List VertexStar) (a b labels : List ℕ) → Legal k a b → AllByRecursion (IsStarOf k) near → labels ≡ union a b → stars_changed near labels (join_boundary a b) (join_boundary b a) ≡ stars_flipped near a b
 all_flipped k [] a b labels l h e = refl
 all_flipped k (s ∷ near) a b labels l h e = λ i. one_flipped k a b labels s l h.0 e i ∷ all_flipped k near a b labels l h.1 e i
 
-pub made_flipped : (k : Space) (near last : List VertexStar) (a b labels : List ℕ) (out more : List (List ℕ)) → AreStarsOf k near → why k a b ≡ Ok tt → last ≡ stars_changed near labels out more → labels ≡ union a b → out ≡ sides a b → more ≡ sides b a → last ≡ stars_flipped near a b
+pub made_flipped : (k : ComplexView) (near last : List VertexStar) (a b labels : List ℕ) (out more : List (List ℕ)) → AreStarsOf k near → broken_rule k a b ≡ Ok tt → last ≡ stars_changed near labels out more → labels ≡ union a b → out ≡ join_boundary a b → more ≡ join_boundary b a → last ≡ stars_flipped near a b
 made_flipped k near last a b labels out more h ok e el eo em = e ∙ (λ i. stars_changed near labels (eo i) (em i)) ∙ all_flipped k near a b labels (legal k a b ok) h.each el
 
 -- ---- of which complex they are then
@@ -139,7 +139,7 @@ pub same_vertices : (near : List VertexStar) (a b : List ℕ) → vertices (star
 same_vertices [] a b = refl
 same_vertices (s ∷ near) a b = ap (λ vs. s.vertex ∷ vs) (same_vertices near a b)
 
-star_of_flipped : (k : Space) (a b : List ℕ) (s : VertexStar) → IsComplex k → why k a b ≡ Ok tt → IsStarOf k s → IsStarOf (flipped k a b) (star_flipped a b s)
+star_of_flipped : (k : ComplexView) (a b : List ℕ) (s : VertexStar) → IsComplex k → broken_rule k a b ≡ Ok tt → IsStarOf k s → IsStarOf (flipped k a b) (star_flipped a b s)
 star_of_flipped k a b s c ok h = record {
   dim = h.dim;
   rows = by_tests (has a s.vertex) (has b s.vertex) refl refl;
@@ -153,16 +153,16 @@ star_of_flipped k a b s c ok h = record {
     by_tests false true e g = after
     by_tests false false e g = h.rows ∙ sym (other_star k a b s.vertex c.rising ok e g)
 
-each_of_flipped : (k : Space) (a b : List ℕ) (near : List VertexStar) → IsComplex k → why k a b ≡ Ok tt → AllByRecursion (IsStarOf k) near → AllByRecursion (IsStarOf (flipped k a b)) (stars_flipped near a b)
+each_of_flipped : (k : ComplexView) (a b : List ℕ) (near : List VertexStar) → IsComplex k → broken_rule k a b ≡ Ok tt → AllByRecursion (IsStarOf k) near → AllByRecursion (IsStarOf (flipped k a b)) (stars_flipped near a b)
 each_of_flipped k a b [] c ok h = tt
 each_of_flipped k a b (s ∷ near) c ok h = (star_of_flipped k a b s c ok h.0, each_of_flipped k a b near c ok h.1)
 
-pub stars_of_flipped : (k : Space) (near : List VertexStar) (f : Flip) → OfFaces f → why k f.a f.b ≡ Ok tt → AreStarsOf k near → AreStarsOf (flipped k f.a f.b) (stars_flipped near f.a f.b)
+pub stars_of_flipped : (k : ComplexView) (near : List VertexStar) (f : Flip) → OfFaces f → broken_rule k f.a f.b ≡ Ok tt → AreStarsOf k near → AreStarsOf (flipped k f.a f.b) (stars_flipped near f.a f.b)
 stars_of_flipped k near f faces ok h = record {
   complex = complex_flipped k f.a f.b h.complex faces.first faces.second ok;
   rising = let P : List ℕ → Type 0 = λ vs. IsRising vs in subst P (sym (same_vertices near f.a f.b)) h.rising;
   each = each_of_flipped k f.a f.b near h.complex ok h.each;
 }
 
-pub stars_of_last : (k : Space) (near last : List VertexStar) (f : Flip) → last ≡ stars_flipped near f.a f.b → OfFaces f → why k f.a f.b ≡ Ok tt → AreStarsOf k near → AreStarsOf (flipped k f.a f.b) last
+pub stars_of_last : (k : ComplexView) (near last : List VertexStar) (f : Flip) → last ≡ stars_flipped near f.a f.b → OfFaces f → broken_rule k f.a f.b ≡ Ok tt → AreStarsOf k near → AreStarsOf (flipped k f.a f.b) last
 stars_of_last k near last f e faces ok h = let P : List VertexStar → Type 0 = λ ss. AreStarsOf (flipped k f.a f.b) ss in subst P (sym e) (stars_of_flipped k near f faces ok h)

@@ -11,14 +11,14 @@ use Rattle.std.proofs.Math.Seq.{drop-cons}
 use Rattle.std.proofs.lemmas.List.{drop_all}
 use Rattle.std.proofs.lemmas.List.Folds.{list_any-append}
 use Rattle.complex_core.specs.Labels.{has, holds, without, union, face_cmp}
-use Rattle.complex_core.specs.Spaces.{over, is_held}
+use Rattle.complex_core.specs.Complexes.{over, is_held}
 use Rattle.complex_core.specs.Maps.{used}
 use Rattle.complex_core.specs.Links.{less}
 use Rattle.complex_core.proofs.Sets.{sorted_rising, sorted_none, any-rising}
 use Rattle.complex_core.proofs.Faces.{equal_cmp, length-union}
 use Rattle.complex_core.proofs.Laws.{both_ways, nat_eq_is, has-union, or_left, sorted_union, same_labels, sorted_without, length-without}
 use Rattle.complex_core.proofs.SubsetLists.{two, clash}
-use Rattle.flip_rules.specs.Flips.{Shaped, sides, has_shape, link_is, why_near}
+use Rattle.flip_rules.specs.Flips.{Shaped, join_boundary, has_shape, link_is, broken_rule_near}
 use Rattle.flip_rules.specs.declared.flip.Flip.{Flip}
 use Rattle.flip_rules.specs.declared.flip.Illegal.{Illegal}
 use Rattle.flip_rules.proofs.Links.{have_sides, are_sides, link_tested, sides_held}
@@ -136,7 +136,7 @@ has_shape_is d rows a some small = both_ways (has_shape d a (opposite rows a)) (
     (λ t. shape_from d a (opposite rows a) (shape_of d rows a some small (nat_eq_is (length (opposite rows a)) (rest_size d a) t)))
 
 held_by_link : (rows : List (List ℕ)) (a b : List ℕ) → IsStrictlySortedBy face_cmp rows → 0 < length b → link_is rows a b ≡ true → is_held rows a ≡ true
-held_by_link rows a b r some t = sides_held rows a b some (first_so (have_sides rows (sides a b)) (are_sides rows a (sides a b)) (link_tested rows a b r ∙ t))
+held_by_link rows a b r some t = sides_held rows a b some (first_so (have_sides rows (join_boundary a b)) (are_sides rows a (join_boundary a b)) (link_tested rows a b r ∙ t))
 
 verdict_ok : (s h l n : Bool) → s ≡ n → (n ≡ true → l ≡ true → h ≡ true) → is_ok (verdict s h l false) ≡ (n && l)
 verdict_ok true true true n e f = ap (λ b. b && true) e
@@ -148,7 +148,7 @@ verdict_ok true false false true e f = refl
 verdict_ok true false false false e f = refl
 verdict_ok false h l n e f = ap (λ b. b && l) e
 
-pub judged : (d : ℕ) (rows : List (List ℕ)) (a : List ℕ) → IsStrictlySortedBy face_cmp rows → 0 < length a → length a ≤ d → is_ok (why_near d rows [] a (opposite rows a)) ≡ is_candidate rows (rest_size d a) a
+pub judged : (d : ℕ) (rows : List (List ℕ)) (a : List ℕ) → IsStrictlySortedBy face_cmp rows → 0 < length a → length a ≤ d → is_ok (broken_rule_near d rows [] a (opposite rows a)) ≡ is_candidate rows (rest_size d a) a
 judged d rows a r some small =
     let b : List ℕ = opposite rows a in
     verdict_ok (has_shape d a b) (is_held rows a) (link_is rows a b) (nat_eq (length b) (rest_size d a)) (has_shape_is d rows a some small)
@@ -161,15 +161,15 @@ none_by : (c : Bool) (f : Flip) → c ≡ false → None ≡ (if c then Some f e
 none_by c f e = sym (ap (λ b. cond b (Some f) None) e)
 
 abbrev pub judgement : ℕ → List (List ℕ) → List ℕ → List ℕ → Result (Unit {0}) Illegal
-judgement d rows a b = why_near d rows [] a b
+judgement d rows a b = broken_rule_near d rows [] a b
 
-pub flip_found : (d : ℕ) (rows : List (List ℕ)) (a labels b : List ℕ) (r : Result (Unit {0}) Illegal) → labels ≡ used (over rows a) → b ≡ less labels a → r ≡ why_near d rows [] a b → is_ok r ≡ true → Some (flip_of a b) ≡ flip_at d rows a
+pub flip_found : (d : ℕ) (rows : List (List ℕ)) (a labels b : List ℕ) (r : Result (Unit {0}) Illegal) → labels ≡ used (over rows a) → b ≡ less labels a → r ≡ broken_rule_near d rows [] a b → is_ok r ≡ true → Some (flip_of a b) ≡ flip_at d rows a
 flip_found d rows a labels b r e is w ok =
     let s : b ≡ opposite rows a = is ∙ ap (λ ls. less ls a) e in
     ap (λ c. Some (flip_of a c)) s
     ∙ chosen_by (is_ok (judgement d rows a (opposite rows a))) (flip_of a (opposite rows a)) (ap (λ c. is_ok (judgement d rows a c)) (sym s) ∙ ap is_ok (sym w) ∙ ok)
 
-pub flip_missed : (d : ℕ) (rows : List (List ℕ)) (a labels b : List ℕ) (r : Result (Unit {0}) Illegal) (o : Option Flip) → labels ≡ used (over rows a) → b ≡ less labels a → r ≡ why_near d rows [] a b → is_ok r ≡ false → o ≡ None → o ≡ flip_at d rows a
+pub flip_missed : (d : ℕ) (rows : List (List ℕ)) (a labels b : List ℕ) (r : Result (Unit {0}) Illegal) (o : Option Flip) → labels ≡ used (over rows a) → b ≡ less labels a → r ≡ broken_rule_near d rows [] a b → is_ok r ≡ false → o ≡ None → o ≡ flip_at d rows a
 flip_missed d rows a labels b r o e is w ok none =
     let s : b ≡ opposite rows a = is ∙ ap (λ ls. less ls a) e in
     none ∙ none_by (is_ok (judgement d rows a (opposite rows a))) (flip_of a (opposite rows a)) (ap (λ c. is_ok (judgement d rows a c)) (sym s) ∙ ap is_ok (sym w) ∙ ok)

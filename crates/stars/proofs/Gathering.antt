@@ -8,7 +8,7 @@ use Rattle.std.specs.Cmp.Lexicographic.{pointwise, nat_list_cmp_total}
 use Rattle.std.proofs.lemmas.Bool.{true≢false}
 use Rattle.complex_core.specs.Labels.{has, holds, face_cmp}
 use Rattle.complex_core.specs.Rising.{rising}
-use Rattle.complex_core.specs.Spaces.{Space, IsComplex, IsFacet}
+use Rattle.complex_core.specs.Complexes.{ComplexView, IsComplex, IsFacet}
 use Rattle.complex_core.specs.ComplexFaults.{CanMake, StopsPure, CanBegin, first_size}
 use Rattle.complex_core.proofs.Sets.{above_head, sorted_rising}
 use Rattle.complex_core.proofs.Faces.{less_cmp}
@@ -22,7 +22,7 @@ use Rattle.stars.proofs.Finding.{each_at}
 use Rattle.complex_core.proofs.SetLists.{of_kind, some_before_rising}
 
 -- what is gathered are facets
-gathered_listed : (k : Space) (stars : List VertexStar) (f : List ℕ) → AllByRecursion (IsStarOf k) stars → listed (flat_map first_rows stars) f ≡ true → listed k.facets f ≡ true
+gathered_listed : (k : ComplexView) (stars : List VertexStar) (f : List ℕ) → AllByRecursion (IsStarOf k) stars → listed (flat_map first_rows stars) f ≡ true → listed k.facets f ≡ true
 gathered_listed k [] f h t = absurd (true≢false (sym t))
 gathered_listed k (s ∷ stars) f h t =
     either (listed (first_rows s) f) (listed (flat_map first_rows stars) f) (listed k.facets f) (sym (listed-append (first_rows s) (flat_map first_rows stars) f) ∙ t)
@@ -30,7 +30,7 @@ gathered_listed k (s ∷ stars) f h t =
     (λ r. gathered_listed k stars f h.1 r)
 
 -- a facet is gathered from the star of its first label
-listed_gathered : (k : Space) (stars : List VertexStar) (f : List ℕ) (v : ℕ) → AllByRecursion (IsStarOf k) stars → has (vertices stars) v ≡ true → listed k.facets f ≡ true → begins f v ≡ true → has f v ≡ true → listed (flat_map first_rows stars) f ≡ true
+listed_gathered : (k : ComplexView) (stars : List VertexStar) (f : List ℕ) (v : ℕ) → AllByRecursion (IsStarOf k) stars → has (vertices stars) v ≡ true → listed k.facets f ≡ true → begins f v ≡ true → has f v ≡ true → listed (flat_map first_rows stars) f ≡ true
 listed_gathered k [] f v h t l b i = absurd (true≢false (sym t))
 listed_gathered k (s ∷ stars) f v h t l b i =
     listed-append (first_rows s) (flat_map first_rows stars) f
@@ -52,12 +52,12 @@ first_label d [] h = absurd (omega (arith, h.size))
 first_label d (x ∷ xs) h = (x, nat_eq_same x, or_left (nat_eq x x) (has xs x) (nat_eq_same x), less_cmp 0 x (above_head nat_cmp 0 (x ∷ xs) h.face.rising).0)
 
 -- the sets that are gathered are the facets
-pub record AreFacets (k : Space) (fs : List (List ℕ)) : Type 0 where
+pub record AreFacets (k : ComplexView) (fs : List (List ℕ)) : Type 0 where
   pub same : rising face_cmp fs ≡ k.facets
   pub sized : AllByRecursion (λ f. length f ≡ k.dim + 1) fs
   pub some : 0 < length fs
 
-pub gathered_facets : (k : Space) (m : StarList) → IsStarListOf k m → AreFacets k (flat_map first_rows (all_stars m))
+pub gathered_facets : (k : ComplexView) (m : StarList) → IsStarListOf k m → AreFacets k (flat_map first_rows (all_stars m))
 gathered_facets k m h = record {
   same = same;
   sized = all_kind (λ f. length f ≡ k.dim + 1) fs (λ f t. (of_kind (IsFacet k.dim) k.facets f h.complex.pure (gathered_listed k (all_stars m) f stars.each t)).size);
@@ -85,7 +85,7 @@ first_sized n [] some h = absurd (omega (arith, some))
 first_sized n (f ∷ fs) some h = h.0
 
 -- the complex that is made of them
-pub made_complex : (k c : Space) (fs gs : List (List ℕ)) → AreFacets k fs → gs ≡ fs → c.facets ≡ rising face_cmp gs → c.dim ≡ first_size gs - 1 → c ≡ k
+pub made_complex : (k c : ComplexView) (fs gs : List (List ℕ)) → AreFacets k fs → gs ≡ fs → c.facets ≡ rising face_cmp gs → c.dim ≡ first_size gs - 1 → c ≡ k
 made_complex k c fs gs h e ef ed =
     let facets : c.facets ≡ k.facets = ef ∙ ap (rising face_cmp) e ∙ h.same in
     let size : first_size fs ≡ k.dim + 1 = first_sized (k.dim + 1) fs h.some h.sized in
@@ -97,7 +97,7 @@ same_sizes n m [] e h = tt
 same_sizes n m (f ∷ fs) e h = (h.0 ∙ e, same_sizes n m fs e h.1)
 
 -- they can make a complex
-pub can_make : (k : Space) (fs gs : List (List ℕ)) → IsComplex k → AreFacets k fs → gs ≡ fs → CanMake gs
+pub can_make : (k : ComplexView) (fs gs : List (List ℕ)) → IsComplex k → AreFacets k fs → gs ≡ fs → CanMake gs
 can_make k fs gs c h e =
     let P : List (List ℕ) → Type 0 = λ xs. CanMake xs in
     let size : first_size fs ≡ k.dim + 1 = first_sized (k.dim + 1) fs h.some h.sized in
@@ -119,6 +119,6 @@ gathered_all m shown facets j es l e = e ∙ ap (flat_map first_rows) (take_past
     take_past (s ∷ ss) zero l = absurd (omega (arith, l))
     take_past (s ∷ ss) (suc j) l = ap (λ ts. s ∷ ts) (take_past ss j (omega (arith, l)))
 
-pub made_if : {E : Type 0} (m : StarList) (gs : List (List ℕ)) (r : Result Space E) → gs ≡ flat_map first_rows (all_stars m) → IfOk r (λ c. c.facets ≡ rising face_cmp gs) → IfOk r (λ c. c.dim ≡ first_size gs - 1) → IfOk r (λ c. (k : Space) → IsStarListOf k m → c ≡ k)
+pub made_if : {E : Type 0} (m : StarList) (gs : List (List ℕ)) (r : Result ComplexView E) → gs ≡ flat_map first_rows (all_stars m) → IfOk r (λ c. c.facets ≡ rising face_cmp gs) → IfOk r (λ c. c.dim ≡ first_size gs - 1) → IfOk r (λ c. (k : ComplexView) → IsStarListOf k m → c ≡ k)
 made_if m gs (Ok c) e ef ed = λ k h. made_complex k c (flat_map first_rows (all_stars m)) gs (gathered_facets k m h) e ef ed
 made_if m gs (Err x) e ef ed = tt

@@ -8,7 +8,7 @@ use Rattle.complex_core.specs.Labels.{face_cmp}
 use Rattle.complex_core.proofs.Laws.{nat_eq_is}
 use Rattle.stars.specs.StarViews.{VertexStar, IsStar}
 use Rattle.stars.specs.Candidates.{IsListOf}
-use Rattle.stars.specs.Lists.{CandidateList, AreLists, ChangedWithin, list_after}
+use Rattle.stars.specs.CandidateLists.{CandidateList, AreLists, ChangedWithin, list_after}
 use Rattle.stars.proofs.Finding.{each_at, each_from}
 use Rattle.stars.proofs.Listing.{kept_up, list_rises}
 

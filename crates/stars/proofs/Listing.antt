@@ -9,24 +9,24 @@ use Rattle.std.specs.Cmp.Lexicographic.{nat_list_cmp_total, pointwise}
 use Rattle.std.proofs.lemmas.List.Kept.{IsStrictlySortedBy-filter}
 use Rattle.complex_core.specs.Labels.{has, holds, face_cmp}
 use Rattle.complex_core.specs.Rising.{rising}
-use Rattle.complex_core.specs.Spaces.{IsFacet, over, is_held}
+use Rattle.complex_core.specs.Complexes.{IsFacet, over, is_held}
 use Rattle.complex_core.specs.Subsets.{subsets_of}
 use Rattle.complex_core.proofs.Sets.{above_tail, sorted_rising}
 use Rattle.complex_core.proofs.Laws.{both_ways, nat_eq_is, or_left, or_right, listed, listed-append, listed-filter, listed-rising, same_lists, same_sets_is}
 use Rattle.complex_core.proofs.Runs.{held_alike}
 use Rattle.complex_core.proofs.SubsetLists.{two, clash, Chosen, chosen_is, chosen_from}
-use Rattle.flip_rules.specs.Flips.{sides, link_is, same_sets}
+use Rattle.flip_rules.specs.Flips.{join_boundary, link_is, same_sets}
 use Rattle.flip_rules.proofs.Links.{have_sides, are_sides, link_tested, sides_held}
 use Rattle.complex_core.specs.Maps.{used}
 use Rattle.complex_core.specs.Links.{less}
 use Rattle.complex_core.proofs.SetLists.{listed-flat_map, of_kind}
 use Rattle.stars.specs.StarViews.{VertexStar, IsStar}
 use Rattle.stars.specs.Candidates.{opposite, is_candidate, faces_at, candidate_faces}
-use Rattle.stars.specs.Lists.{candidates_within, not_within, list_after, ChangedWithin}
+use Rattle.stars.specs.CandidateLists.{candidates_within, not_within, list_after, ChangedWithin}
 
 -- a candidate is seen in the rows over it
 candidate_alike : (near rows : List (List ℕ)) (n : ℕ) (a : List ℕ) → over near a ≡ over rows a → is_candidate near n a ≡ is_candidate rows n a
-candidate_alike near rows n a e = ap (λ fs. nat_eq (length (less (used fs) a)) n && same_sets fs (rising face_cmp (sides a (less (used fs) a)))) e
+candidate_alike near rows n a e = ap (λ fs. nat_eq (length (less (used fs) a)) n && same_sets fs (rising face_cmp (join_boundary a (less (used fs) a)))) e
 
 -- ---- which faces a star has
 
@@ -87,7 +87,7 @@ held_candidate rows i set r t =
     let b : List ℕ = opposite rows set in
     let size : length b ≡ i + 1 = nat_eq_is (length b) (i + 1) (first_so (nat_eq (length b) (i + 1)) (link_is rows set b) t) in
     let link : link_is rows set b ≡ true = second_so (nat_eq (length b) (i + 1)) (link_is rows set b) t in
-    sides_held rows set b (omega (arith, size)) (first_so (have_sides rows (sides set b)) (are_sides rows set (sides set b)) (link_tested rows set b r ∙ link))
+    sides_held rows set b (omega (arith, size)) (first_so (have_sides rows (join_boundary set b)) (are_sides rows set (join_boundary set b)) (link_tested rows set b r ∙ link))
 
 -- ---- members of the two lists
 

@@ -8,12 +8,12 @@ use Rattle.std.proofs.lemmas.Cmp.{nat_cmp_total}
 use Rattle.std.proofs.Math.Seq.{take-append_seam}
 use Rattle.std.proofs.lemmas.List.{get_or-map, length-map}
 use Rattle.complex_core.specs.Labels.{IsFace, has, holds, union, without}
-use Rattle.complex_core.specs.Spaces.{Space}
+use Rattle.complex_core.specs.Complexes.{ComplexView}
 use Rattle.complex_core.specs.Maps.{used}
 use Rattle.complex_core.proofs.Sets.{among-rising}
 use Rattle.complex_core.proofs.Faces.{among-has}
 use Rattle.complex_core.proofs.Laws.{listed, has-union, has-without, nat_eq_is, same_sets_is, same_set_itself, or_left, or_right}
-use Rattle.flip_rules.specs.Flips.{flipped, sides}
+use Rattle.flip_rules.specs.Flips.{flipped, join_boundary}
 use Rattle.flip_rules.proofs.Links.{side_of, listed-flipped}
 use Rattle.flip_rules.specs.declared.flip.Flip.{Flip}
 use Rattle.flip_rules.specs.declared.flip.FlipFault.{FlipFault}
@@ -28,7 +28,7 @@ use Rattle.std.specs.Cmp.{first_so}
 pub items_are : (m : StarList) (dim : ℕ) (items : List VertexStar) → record { dim = dim; stars = map (λ (s : VertexStar). s.rows) items } ≡ m → AreNumbered dim items → items ≡ all_stars m
 items_are m dim items view numbers = numbers ∙ ap all_stars view
 
-pub shown_stars : (k : Space) (m : StarList) (shown : List VertexStar) → shown ≡ all_stars m → IsStarListOf k m → AreStarsOf k shown
+pub shown_stars : (k : ComplexView) (m : StarList) (shown : List VertexStar) → shown ≡ all_stars m → IsStarListOf k m → AreStarsOf k shown
 shown_stars k m shown e h = let P : List VertexStar → Type 0 = λ ss. AreStarsOf k ss in subst P (sym e) (listed_stars k m h)
 
 pub shown_labels : (m : StarList) (f : Flip) (shown : List VertexStar) → shown ≡ all_stars m → IsFace f.a → IsFace f.b → OnPlaces m f → HasLabels shown f
@@ -84,19 +84,19 @@ listed_has (g ∷ fs) p t =
     ] refl (sym (has_append g (flat_map (λ g. g) fs) p) ∙ t)
 
 -- no facet has a label above n
-pub uses_of : (k : Space) (n : ℕ) (f : List ℕ) (p : ℕ) → UsesUpTo k n → listed k.facets f ≡ true → has f p ≡ true → p ≤ n
+pub uses_of : (k : ComplexView) (n : ℕ) (f : List ℕ) (p : ℕ) → UsesUpTo k n → listed k.facets f ≡ true → has f p ≡ true → p ≤ n
 uses_of k n f p h t e = has_bound n (used k.facets) p h (has_used k.facets p ∙ has_listed k.facets f p t e)
 
-pub uses_from : (k : Space) (n : ℕ) → ((f : List ℕ) (p : ℕ) → listed k.facets f ≡ true → has f p ≡ true → p ≤ n) → UsesUpTo k n
+pub uses_from : (k : ComplexView) (n : ℕ) → ((f : List ℕ) (p : ℕ) → listed k.facets f ≡ true → has f p ≡ true → p ≤ n) → UsesUpTo k n
 uses_from k n h = from_has n (used k.facets) (λ p t. let r : (f : List ℕ) × (listed k.facets f ≡ true) × (has f p ≡ true) = listed_has k.facets p (sym (has_used k.facets p) ∙ t) in h r.0 p r.1 r.2)
 
 pub either : (x y : Bool) (C : Type 0) → (x || y) ≡ true → (x ≡ true → C) → (y ≡ true → C) → C
 either true y C h f g = f refl
 either false y C h f g = g h
 
-uses_flipped : (k : Space) (f : Flip) (n : ℕ) → UsesUpTo k n → AllByRecursion (λ x. x ≤ n) f.a → AllByRecursion (λ x. x ≤ n) f.b → UsesUpTo (flipped k f.a f.b) n
+uses_flipped : (k : ComplexView) (f : Flip) (n : ℕ) → UsesUpTo k n → AllByRecursion (λ x. x ≤ n) f.a → AllByRecursion (λ x. x ≤ n) f.b → UsesUpTo (flipped k f.a f.b) n
 uses_flipped k f n h ha hb = uses_from (flipped k f.a f.b) n (λ g p t e.
-    either (listed k.facets g && not (holds g f.a)) (listed (sides f.b f.a) g) (p ≤ n) (sym (listed-flipped k f.a f.b g) ∙ t)
+    either (listed k.facets g && not (holds g f.a)) (listed (join_boundary f.b f.a) g) (p ≤ n) (sym (listed-flipped k f.a f.b g) ∙ t)
     (λ r. uses_of k n g p h (first_so (listed k.facets g) (not (holds g f.a)) r) e)
     (λ r. let s : (x : ℕ) × (has f.a x ≡ true) × (g ≡ union f.b (without f.a x)) = side_of f.b f.a g r in
     either (has f.b p) (has (without f.a s.0) p) (p ≤ n) (sym (has-union f.b (without f.a s.0) p) ∙ ap (λ x. has x p) (sym s.2) ∙ e)
@@ -120,7 +120,7 @@ kept_fields a b d old new (Ok u) ok err few numbers = let P : List VertexStar �
 kept_fields a b d old new (Err e) ok err few numbers = let P : List VertexStar → Type 0 = λ ss. (length ss < 2 ^ 16) × AreNumbered d ss in subst P (sym err) (few, numbers)
 
 -- numbered stars of a complex that uses no other labels are its map
-pub map_of_stars : (k : Space) (d : ℕ) (items : List VertexStar) → AreStarsOf k items → AreNumbered d items → d ≡ k.dim → UsesUpTo k (length items) → IsStarListOf k (record { dim = d; stars = map (λ (s : VertexStar). s.rows) items })
+pub map_of_stars : (k : ComplexView) (d : ℕ) (items : List VertexStar) → AreStarsOf k items → AreNumbered d items → d ≡ k.dim → UsesUpTo k (length items) → IsStarListOf k (record { dim = d; stars = map (λ (s : VertexStar). s.rows) items })
 map_of_stars k d items h numbers dim uses = record {
   complex = h.complex;
   dim = dim;
@@ -134,7 +134,7 @@ map_of_stars k d items h numbers dim uses = record {
       get_or-map (λ (t : VertexStar). t.rows) items (p - 1) none [] inside ∙ is.rows ∙ ap (star k.facets) v;
 }
 
-pub flipped_map : (k : Space) (m : StarList) (f : Flip) (d : ℕ) (old new : List VertexStar) (r : Result (Unit {0}) FlipFault) → record { dim = d; stars = map (λ (s : VertexStar). s.rows) old } ≡ m → AreNumbered d old → OnOk r (new ≡ stars_flipped old f.a f.b) → OnOk r (AreStarsOf (flipped k f.a f.b) new) → IsStarListOf k m → OnPlaces m f → OnOk r (IsStarListOf (flipped k f.a f.b) (record { dim = d; stars = map (λ (s : VertexStar). s.rows) new }))
+pub flipped_map : (k : ComplexView) (m : StarList) (f : Flip) (d : ℕ) (old new : List VertexStar) (r : Result (Unit {0}) FlipFault) → record { dim = d; stars = map (λ (s : VertexStar). s.rows) old } ≡ m → AreNumbered d old → OnOk r (new ≡ stars_flipped old f.a f.b) → OnOk r (AreStarsOf (flipped k f.a f.b) new) → IsStarListOf k m → OnPlaces m f → OnOk r (IsStarListOf (flipped k f.a f.b) (record { dim = d; stars = map (λ (s : VertexStar). s.rows) new }))
 flipped_map k m f d old new (Err e) view numbers made stars h places = tt
 flipped_map k m f d old new (Ok u) view numbers made stars h places =
     let few : length new ≡ places_in m = ap length made ∙ length-flipped f.a f.b old ∙ sym (length-map old (λ (s : VertexStar). s.rows)) ∙ ap places_in view in

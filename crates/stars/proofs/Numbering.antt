@@ -6,7 +6,7 @@ use Rattle.std.specs.Ordering.{nat_cmp}
 use Rattle.std.specs.Cmp.Derive.{both_true}
 use Rattle.std.proofs.lemmas.Bool.{cases_lt}
 use Rattle.complex_core.specs.Labels.{IsRising, has, holds}
-use Rattle.complex_core.specs.Spaces.{Space}
+use Rattle.complex_core.specs.Complexes.{ComplexView}
 use Rattle.complex_core.proofs.Sets.{Above, above_cons, above_head, sorted_none}
 use Rattle.complex_core.proofs.Faces.{cmp_less, less_cmp}
 use Rattle.complex_core.proofs.Laws.{nat_eq_same, or_left, or_right}
@@ -39,7 +39,7 @@ has_numbered d n (rows ∷ more) x low high = elim (cases_lt (n + 1) x) [
   | inr m ↦ let e : n + 1 ≡ x = omega (arith, m, low) in or_left (nat_eq (n + 1) x) (has (vertices (numbered d (n + 1) more)) x) (ap (λ y. nat_eq (n + 1) y) (sym e) ∙ nat_eq_same (n + 1))
 ]
 
-each_numbered : (k : Space) (d n : ℕ) (stars : List (List (List ℕ))) → d ≡ k.dim → ((i : ℕ) → i < length stars → get_or stars i [] ≡ star k.facets (n + i + 1)) → AllByRecursion (IsStarOf k) (numbered d n stars)
+each_numbered : (k : ComplexView) (d n : ℕ) (stars : List (List (List ℕ))) → d ≡ k.dim → ((i : ℕ) → i < length stars → get_or stars i [] ≡ star k.facets (n + i + 1)) → AllByRecursion (IsStarOf k) (numbered d n stars)
 each_numbered k d n [] e h = tt
 each_numbered k d n (rows ∷ more) e h = (
   record { dim = e; rows = let g : n + 0 + 1 ≡ n + 1 = omega arith in h 0 (omega arith) ∙ ap (star k.facets) g },
@@ -47,7 +47,7 @@ each_numbered k d n (rows ∷ more) e h = (
 )
 
 -- the stars of a complex, one by one
-pub listed_stars : (k : Space) (m : StarList) → IsStarListOf k m → AreStarsOf k (all_stars m)
+pub listed_stars : (k : ComplexView) (m : StarList) → IsStarListOf k m → AreStarsOf k (all_stars m)
 listed_stars k m h = record {
   complex = h.complex;
   rising = rising_numbered m.dim m.stars;

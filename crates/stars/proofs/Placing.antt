@@ -6,7 +6,7 @@ use Rattle.std.proofs.lemmas.List.{take_more, take-append-drop, get_or-map, leng
 use Rattle.std.proofs.lemmas.List.Elements.{filter-append}
 use Rattle.std.proofs.lemmas.List.Kept.{IsStrictlySortedBy-filter}
 use Rattle.complex_core.specs.Labels.{has, holds, face_cmp}
-use Rattle.complex_core.specs.Spaces.{Space, IsComplex, IsFacet}
+use Rattle.complex_core.specs.Complexes.{ComplexView, IsComplex, IsFacet}
 use Rattle.complex_core.proofs.Sets.{sorted_front}
 use Rattle.complex_core.proofs.Laws.{listed, or_left, or_right, same_set_itself}
 use Rattle.std.specs.Cmp.Lexicographic.{pointwise}
@@ -63,7 +63,7 @@ facet_next d count j fs f now new l is e en =
 
 -- ---- what each facet asks
 
-star_fits : (k : Space) (fs : List (List ℕ)) (v : ℕ) → IsComplex k → 0 < v → IsStrictlySortedBy face_cmp fs → AllByRecursion (IsFacet k.dim) fs → IsStar (record { vertex = v; dim = k.dim; rows = star fs v })
+star_fits : (k : ComplexView) (fs : List (List ℕ)) (v : ℕ) → IsComplex k → 0 < v → IsStrictlySortedBy face_cmp fs → AllByRecursion (IsFacet k.dim) fs → IsStar (record { vertex = v; dim = k.dim; rows = star fs v })
 star_fits k fs v h pos rises pure = record {
   vertex = pos;
   low = h.low;
@@ -85,7 +85,7 @@ listed_at [] j d l = absurd (omega (arith, l))
 listed_at (f ∷ fs) zero d l = or_left (pointwise nat_eq f f) (listed fs f) (same_set_itself f)
 listed_at (f ∷ fs) (suc j) d l = or_right (pointwise nat_eq f (get_or fs j d)) (listed fs (get_or fs j d)) (listed_at fs j d (omega (arith, l)))
 
-pub can_add : (k : Space) (d count j : ℕ) (fs : List (List ℕ)) (f : List ℕ) (now : List VertexStar) → IsComplex k → d ≡ k.dim → fs ≡ k.facets → UsesUpTo k count → j < length fs → f ≡ get_or fs j f → now ≡ stars_of d (take j fs) 0 count → CanAdd now f
+pub can_add : (k : ComplexView) (d count j : ℕ) (fs : List (List ℕ)) (f : List ℕ) (now : List VertexStar) → IsComplex k → d ≡ k.dim → fs ≡ k.facets → UsesUpTo k count → j < length fs → f ≡ get_or fs j f → now ≡ stars_of d (take j fs) 0 count → CanAdd now f
 can_add k d count j fs f now h ed ef uses l is e = record {
   numbered = λ i other li. ap (λ (s : VertexStar). s.vertex) (there i other li);
   within = λ x t. omega (arith, long, uses_of k count f x uses (ap (λ gs. listed gs f) (sym ef) ∙ ap (listed fs) is ∙ listed_at fs j f l) t);
@@ -128,7 +128,7 @@ all_done fs gs j e l = take_past fs j l ∙ e
     take_past (f ∷ fs) zero l = absurd (omega (arith, l))
     take_past (f ∷ fs) (suc j) l = ap (λ gs. f ∷ gs) (take_past fs j (omega (arith, l)))
 
-pub filled_map : (k : Space) (d count : ℕ) (fs : List (List ℕ)) (items : List VertexStar) → IsComplex k → d ≡ k.dim → UsesUpTo k count → items ≡ stars_of d fs 0 count → fs ≡ k.facets → IsStarListOf k (record { dim = d; stars = map (λ (s : VertexStar). s.rows) items })
+pub filled_map : (k : ComplexView) (d count : ℕ) (fs : List (List ℕ)) (items : List VertexStar) → IsComplex k → d ≡ k.dim → UsesUpTo k count → items ≡ stars_of d fs 0 count → fs ≡ k.facets → IsStarListOf k (record { dim = d; stars = map (λ (s : VertexStar). s.rows) items })
 filled_map k d count fs items h ed uses e ef = record {
   complex = h;
   dim = ed;

@@ -4,14 +4,14 @@ use Rattle.std.specs.List.Sorted.{IsStrictlySortedBy}
 use Rattle.std.specs.Cmp.Lexicographic.{nat_list_cmp_total}
 use Rattle.std.proofs.lemmas.List.Kept.{IsStrictlySortedBy-filter}
 use Rattle.complex_core.specs.Labels.{holds, face_cmp}
-use Rattle.complex_core.specs.Spaces.{over, staying, is_facet}
+use Rattle.complex_core.specs.Complexes.{over, staying, is_facet}
 use Rattle.complex_core.proofs.Sets.{sorted_rising}
 use Rattle.complex_core.proofs.Laws.{holds_has, holds_each, listed, listed-append, listed-filter, listed-rising, same_lists}
 use Rattle.complex_core.proofs.SubsetLists.{two, clash}
 use Rattle.star_laws.specs.Stars.{star}
 use Rattle.stars.specs.StarViews.{VertexStar, IsStar}
 use Rattle.stars.specs.Changes.{star_changed, AreWithin}
-use Rattle.stars.specs.Lists.{ChangedWithin}
+use Rattle.stars.specs.CandidateLists.{ChangedWithin}
 use Rattle.stars.proofs.Listing.{each_listed}
 
 -- a set within some labels holds no set that has another label

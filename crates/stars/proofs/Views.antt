@@ -2,13 +2,13 @@
 use Rattle.std.proofs.Common.{◌≡◌, ℕ, ◌≤◌, true, List, [], ◌∷◌, sym, ◌∙◌, ap, refl, subst, arith}
 use Rattle.std.specs.Cmp.Derive.{both_true}
 use Rattle.complex_core.specs.Labels.{has, holds, face_cmp}
-use Rattle.complex_core.specs.Spaces.{Space, over}
+use Rattle.complex_core.specs.Complexes.{ComplexView, over}
 use Rattle.complex_core.proofs.Sets.{sorted_none}
 use Rattle.complex_core.proofs.Laws.{holds_has}
 use Rattle.flip_rules.specs.Flips.{IsNear}
 use Rattle.star_laws.specs.Stars.{star}
 use Rattle.stars.specs.StarViews.{VertexStar, IsStar, IsStarOf}
-use Rattle.stars.specs.Lists.{CandidateList, AreLists}
+use Rattle.stars.specs.CandidateLists.{CandidateList, AreLists}
 use Rattle.star_laws.proofs.FlipStars.{filter_within}
 
 pub empty_is_star : (vertex dim : ℕ) (rows : List (List ℕ)) → rows ≡ [] → 1 ≤ vertex → dim ≤ 6 → IsStar (record { vertex = vertex; dim = dim; rows = rows })
@@ -31,7 +31,7 @@ pub over_star : (fs : List (List ℕ)) (a : List ℕ) (x : ℕ) → has a x ≡ 
 over_star fs a x t = sym (filter_within (λ f. holds f a) (λ f. holds f (x ∷ [])) fs (λ f h. both_true (holds_has f a x h t) refl))
 
 -- the stars of one label of A and of one of B are near the flip
-pub near_stars : (k : Space) (s t : VertexStar) (a b : List ℕ) → IsStarOf k s → IsStarOf k t → has a s.vertex ≡ true → has b t.vertex ≡ true → IsNear k s.dim s.rows t.rows a b
+pub near_stars : (k : ComplexView) (s t : VertexStar) (a b : List ℕ) → IsStarOf k s → IsStarOf k t → has a s.vertex ≡ true → has b t.vertex ≡ true → IsNear k s.dim s.rows t.rows a b
 near_stars k s t a b p q ha hb = record {
   dim = sym p.dim;
   first = ap (λ fs. over fs a) p.rows ∙ over_star k.facets a s.vertex ha;
@@ -39,7 +39,7 @@ near_stars k s t a b p q ha hb = record {
 }
 
 -- the same, of what a program has of them
-pub near_shown : (k : Space) (s t : VertexStar) (d x y : ℕ) (near_a near_b : List (List ℕ)) (a b : List ℕ) → d ≡ s.dim → near_a ≡ s.rows → near_b ≡ t.rows → s.vertex ≡ x → t.vertex ≡ y → has a x ≡ true → has b y ≡ true → IsStarOf k s → IsStarOf k t → IsNear k d near_a near_b a b
+pub near_shown : (k : ComplexView) (s t : VertexStar) (d x y : ℕ) (near_a near_b : List (List ℕ)) (a b : List ℕ) → d ≡ s.dim → near_a ≡ s.rows → near_b ≡ t.rows → s.vertex ≡ x → t.vertex ≡ y → has a x ≡ true → has b y ≡ true → IsStarOf k s → IsStarOf k t → IsNear k d near_a near_b a b
 near_shown k s t d x y near_a near_b a b ed ea eb ex ey ha hb p q =
     let n : IsNear k s.dim s.rows t.rows a b = near_stars k s t a b p q (ap (has a) ex ∙ ha) (ap (has b) ey ∙ hb) in
     record {

@@ -4,11 +4,11 @@ use Rattle.std.specs.List.{flat_map}
 use Rattle.std.specs.Result.{is_ok}
 use Rattle.complex_core.specs.Labels.{has, face_cmp}
 use Rattle.complex_core.specs.Rising.{rising}
-use Rattle.complex_core.specs.Spaces.{over}
+use Rattle.complex_core.specs.Complexes.{over}
 use Rattle.complex_core.specs.Maps.{used}
 use Rattle.complex_core.specs.Links.{less}
 use Rattle.complex_core.specs.Subsets.{subsets_of}
-use Rattle.flip_rules.specs.Flips.{link_is, why_near}
+use Rattle.flip_rules.specs.Flips.{link_is, broken_rule_near}
 use Rattle.flip_rules.specs.declared.flip.Flip.{Flip}
 use Rattle.stars.specs.StarViews.{VertexStar}
 
@@ -25,7 +25,7 @@ is_candidate rows n a = nat_eq (length (opposite rows a)) n && link_is rows a (o
 
 -- the flip that takes a face out, where the facets over it are those of a flip
 abbrev pub flip_at : ℕ → List (List ℕ) → List ℕ → Option Flip
-flip_at d rows a = if is_ok (why_near d rows [] a (opposite rows a)) then Some (flip_of a (opposite rows a)) else None
+flip_at d rows a = if is_ok (broken_rule_near d rows [] a (opposite rows a)) then Some (flip_of a (opposite rows a)) else None
 
 -- the faces of n labels that have the vertex, rising
 unfoldable pub faces_at : List (List ℕ) → ℕ → ℕ → List (List ℕ)

@@ -2,7 +2,7 @@
 use Rattle.std.specs.Prelude.{◌≡◌, ℕ, false, ◌||◌, if◌then◌else◌, List, map, Some}
 use Rattle.std.specs.List.{AllByRecursion}
 use Rattle.complex_core.specs.Labels.{has}
-use Rattle.complex_core.specs.Spaces.{Space}
+use Rattle.complex_core.specs.Complexes.{ComplexView}
 use Rattle.flip_rules.specs.Flips.{OfFaces, replay}
 use Rattle.flip_rules.specs.declared.flip.Flip.{Flip}
 use Rattle.star_laws.specs.Stars.{star, star_after, star_after_all, flips_touch, LabelsPass}
@@ -25,12 +25,12 @@ abbrev pub stars_replayed : List VertexStar → List Flip → List VertexStar
 stars_replayed near flips = map (star_replayed flips) near
 
 -- the flips replay on the complex, the held stars become what is seen on them, and every other star stays
-pub record ReplaysHere (l : Space) (near : List VertexStar) (flips : List Flip) : Type 0 where
-  pub end : Space
+pub record ReplaysHere (l : ComplexView) (near : List VertexStar) (flips : List Flip) : Type 0 where
+  pub end : ComplexView
   pub replays : replay l flips ≡ Some end
   pub held : AreStarsOf end (stars_replayed near flips)
   pub others : (p : ℕ) → flips_touch p flips ≡ false → star end.facets p ≡ star l.facets p
 
 -- flips whose labels are all held, and that replay on one complex with these stars, do so on every complex with them
 abbrev pub FlipsSeenHere : Type 0
-FlipsSeenHere = (k m l : Space) (near : List VertexStar) (flips : List Flip) → AreStarsOf k near → replay k flips ≡ Some m → AllByRecursion OfFaces flips → LabelsPass (has (vertices near)) flips → AreStarsOf l near → ReplaysHere l near flips
+FlipsSeenHere = (k m l : ComplexView) (near : List VertexStar) (flips : List Flip) → AreStarsOf k near → replay k flips ≡ Some m → AllByRecursion OfFaces flips → LabelsPass (has (vertices near)) flips → AreStarsOf l near → ReplaysHere l near flips

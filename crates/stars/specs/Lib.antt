@@ -4,4 +4,4 @@ pub mod FlipsHere
 pub mod Changes
 pub mod Building
 pub mod Candidates
-pub mod Lists
+pub mod CandidateLists

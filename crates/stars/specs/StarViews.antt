@@ -3,7 +3,7 @@ use Rattle.std.specs.Prelude.{◌≡◌, ℕ, ◌+◌, ◌-◌, ◌<◌, ◌≤�
 use Rattle.std.specs.List.{AllByRecursion}
 use Rattle.std.specs.List.Sorted.{IsStrictlySortedBy}
 use Rattle.complex_core.specs.Labels.{IsRising, has, holds, face_cmp}
-use Rattle.complex_core.specs.Spaces.{Space, IsComplex, IsFacet}
+use Rattle.complex_core.specs.Complexes.{ComplexView, IsComplex, IsFacet}
 use Rattle.complex_core.specs.Maps.{used}
 use Rattle.star_laws.specs.Stars.{star}
 use Rattle.flip_rules.specs.declared.flip.Flip.{Flip}
@@ -52,22 +52,22 @@ abbrev pub AreNumbered : ℕ → List VertexStar → Type 0
 AreNumbered d stars = stars ≡ numbered d 0 (map (λ s. s.rows) stars)
 
 -- the complex uses no label above n
-abbrev pub UsesUpTo : Space → ℕ → Type 0
+abbrev pub UsesUpTo : ComplexView → ℕ → Type 0
 UsesUpTo k n = AllByRecursion (λ x. x ≤ n) (used k.facets)
 
 -- this is the star of its vertex in the complex
-pub record IsStarOf (k : Space) (s : VertexStar) : Type 0 where
+pub record IsStarOf (k : ComplexView) (s : VertexStar) : Type 0 where
   pub dim : s.dim ≡ k.dim
   pub rows : s.rows ≡ star k.facets s.vertex
 
 -- these stars, rising in their vertices, are stars of the complex
-pub record AreStarsOf (k : Space) (near : List VertexStar) : Type 0 where
+pub record AreStarsOf (k : ComplexView) (near : List VertexStar) : Type 0 where
   pub complex : IsComplex k
   pub rising : IsRising (vertices near)
   pub each : AllByRecursion (IsStarOf k) near
 
 -- these are the stars of the complex: every used label is a place, and each place has its star
-pub record IsStarListOf (k : Space) (m : StarList) : Type 0 where
+pub record IsStarListOf (k : ComplexView) (m : StarList) : Type 0 where
   pub complex : IsComplex k
   pub dim : m.dim ≡ k.dim
   pub within : UsesUpTo k (places_in m)

@@ -9,18 +9,18 @@
 #![tactic(auto)]
 
 mod build;
-mod here;
+mod local;
 mod laws;
-mod lists;
+mod candidate_lists;
 mod map;
-mod near;
+mod linked;
 mod over;
 mod rows;
 mod star;
 
-pub use here::{flip_here, has_labels, has_star, local_check};
+pub use local::{flip_here, has_labels, has_star, local_check};
 pub use laws::flips_seen_here;
 pub use map::StarMap;
-pub use near::flip_at;
+pub use linked::flip_at;
 pub use over::Over;
 pub use star::Star;

@@ -1,13 +1,13 @@
 // A star for each place.
 ghost use Rattle.std.specs.Prelude.{◌≡◌, ◌<◌, ◌≤◌, ◌-◌, ◌++◌, ◌∷◌, [], ◌^◌, Ok, Err, length, map, IfOk, OnOk, OnErr, IfErr, IsTrue, ◌↔◌};
 ghost use Rattle.std.specs.List.{AllByRecursion, flat_map};
-ghost use Rattle.complex_core.specs.Spaces.{Space, IsComplex};
-ghost use Rattle.flip_rules.specs.Flips.{why, flipped, FlipRefused, OfFaces};
+ghost use Rattle.complex_core.specs.Complexes.{ComplexView, IsComplex};
+ghost use Rattle.flip_rules.specs.Flips.{broken_rule, flipped, FlipRefused, OfFaces};
 ghost use Rattle.flip_rules.specs.declared.flip.Illegal.{Illegal};
 ghost use Rattle.stars.specs.StarViews.{StarList, IsStar, places_in, star_at, all_stars, AreNumbered, UsesUpTo, IsStarListOf, OnPlaces};
 
 use crate::build::{add_facet, add_first_rows, are_up_to, complex_of, empty_stars, is_up_to};
-use crate::here::{flip_here, local_check};
+use crate::local::{flip_here, local_check};
 use crate::star::Star;
 use complex_core::Complex;
 use flip_rules::{Flip, FlipFault, Illegal};
@@ -111,8 +111,8 @@ impl StarMap {
 
     /// The complex whose stars these are.
     pub fn complex(&self, alloc: Global) -> Result<Complex, AllocError>
-        requires { (k : Space) × IsStarListOf k self.now }
-        ensures { IfOk result (λ c. (k : Space) → IsStarListOf k self.now → c ≡ k) }
+        requires { (k : ComplexView) × IsStarListOf k self.now }
+        ensures { IfOk result (λ c. (k : ComplexView) → IsStarListOf k self.now → c ≡ k) }
     {
         let mut facets = Vec::new(alloc);
         for star in &self.stars {
@@ -124,9 +124,9 @@ impl StarMap {
     /// Tells the first rule that a flip breaks on the complex whose stars these are. It takes no
     /// memory, and looks at two stars.
     pub fn check(&self, flip: &Flip) -> Result<(), Illegal>
-        requires stars { (k : Space) × IsStarListOf k self.now }
+        requires stars { (k : ComplexView) × IsStarListOf k self.now }
         requires places { OnPlaces self.now flip.now }
-        ensures why { (k : Space) → IsStarListOf k self.now → result ≡ why k flip.now.a flip.now.b }
+        ensures broken_rule { (k : ComplexView) → IsStarListOf k self.now → result ≡ broken_rule k flip.now.a flip.now.b }
         ensures faces { OfFaces flip.now }
     {
         // They are labels of faces, and so from 1.
@@ -138,19 +138,19 @@ impl StarMap {
     /// Makes a flip on the complex whose stars these are, or leaves the map as it is: exactly where the
     /// flip breaks a rule, or for want of memory. It costs the stars of the flip's labels.
     pub fn flip(&mut self, flip: &Flip) -> Result<(), FlipFault>
-        requires stars { (k : Space) × IsStarListOf k self.old }
+        requires stars { (k : ComplexView) × IsStarListOf k self.old }
         requires places { OnPlaces self.old flip.now }
-        ensures legal { (k : Space) → IsStarListOf k self.old → OnOk result (why k flip.now.a flip.now.b ≡ Ok tt) }
-        ensures stars { (k : Space) → IsStarListOf k self.old →
+        ensures legal { (k : ComplexView) → IsStarListOf k self.old → OnOk result (broken_rule k flip.now.a flip.now.b ≡ Ok tt) }
+        ensures stars { (k : ComplexView) → IsStarListOf k self.old →
             OnOk result (IsStarListOf (flipped k flip.now.a flip.now.b) self.new) }
         ensures places { places_in self.new ≡ places_in self.old }
         ensures err { OnErr result (self.new ≡ self.old) }
-        ensures why { (k : Space) → IsStarListOf k self.old →
-            IfErr result (FlipRefused (why k flip.now.a flip.now.b)) }
+        ensures broken_rule { (k : ComplexView) → IsStarListOf k self.old →
+            IfErr result (FlipRefused (broken_rule k flip.now.a flip.now.b)) }
 
         // A flip that breaks a rule is always told which, also where memory is short.
-        ensures told { (k : Space) (e : Illegal) → IsStarListOf k self.old →
-            why k flip.now.a flip.now.b ≡ Err e → result ≡ Err (FlipFault.Illegal e) }
+        ensures told { (k : ComplexView) (e : Illegal) → IsStarListOf k self.old →
+            broken_rule k flip.now.a flip.now.b ≡ Err e → result ≡ Err (FlipFault.Illegal e) }
 
         ensures faces { OfFaces flip.now }
     {

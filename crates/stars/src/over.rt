@@ -1,7 +1,7 @@
 // The rows of a star over a face.
 ghost use Rattle.std.specs.Prelude.{◌≡◌};
 ghost use Rattle.std.specs.Iterator.{YieldsFirstRef, item_count};
-ghost use Rattle.complex_core.specs.Spaces.{over};
+ghost use Rattle.complex_core.specs.Complexes.{over};
 
 use complex_core::Face;
 use std::marker::Model;
@@ -17,7 +17,7 @@ pub struct Over<'a> {
 
 impl<'a> Model for Over<'a> {
     ghost use Rattle.std.specs.Prelude.{List, ℕ};
-    ghost use Rattle.complex_core.specs.Spaces.{over};
+    ghost use Rattle.complex_core.specs.Complexes.{over};
 
     ghost Value = { List (List ℕ) };
 

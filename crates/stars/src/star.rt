@@ -1,14 +1,14 @@
 // The star of a vertex.
 ghost use Rattle.std.specs.Prelude.{◌≡◌, ◌<◌, ◌≤◌, ◌==◌, [], length, IfOk, IfSome, OnOk};
-ghost use Rattle.complex_core.specs.Spaces.{over};
+ghost use Rattle.complex_core.specs.Complexes.{over};
 ghost use Rattle.std.specs.List.Sorted.{IsStrictlySortedBy};
 ghost use Rattle.std.specs.Ordering.{nat_cmp};
 ghost use Rattle.stars.specs.StarViews.{VertexStar, IsStar};
 ghost use Rattle.stars.specs.Building.{with_row};
 ghost use Rattle.stars.specs.Candidates.{IsListOf};
-ghost use Rattle.stars.specs.Lists.{AreLists, ChangedWithin};
+ghost use Rattle.stars.specs.CandidateLists.{AreLists, ChangedWithin};
 
-use crate::lists::{Candidates, copies_of, decided_again, find_list};
+use crate::candidate_lists::{Candidates, copies_of, decided_again, find_list};
 use crate::over::Over;
 use complex_core::Face;
 use std::alloc::{AllocError, Global};
@@ -34,7 +34,7 @@ pub(crate) struct Lent {
 
 impl Model for Star {
     ghost use Rattle.stars.specs.StarViews.{VertexStar, IsStar};
-    ghost use Rattle.stars.specs.Lists.{AreLists};
+    ghost use Rattle.stars.specs.CandidateLists.{AreLists};
 
     ghost Value = { VertexStar };
 

@@ -6,7 +6,7 @@ use Rattle.std.specs.Ordering.{nat_cmp}
 use Rattle.std.specs.Str.{bytes_eq}
 use Rattle.std.proofs.lemmas.Bool.{cases_Bool}
 use Rattle.complex_core.specs.Maps.{greatest, takes, turned, used}
-use Rattle.complex_core.specs.Spaces.{Space}
+use Rattle.complex_core.specs.Complexes.{ComplexView}
 use Rattle.complex_core.proofs.Laws.{nat_eq_is}
 use Rattle.complex_core.proofs.Pairs.{takes-rising, takes-turned}
 use Rattle.complex_core.proofs.Sets.{each_rising}
@@ -45,10 +45,10 @@ each_at most i [] h = omega arith
 each_at most zero (x ∷ xs) h = h.0
 each_at most (suc i) (x ∷ xs) h = each_at most i xs h.1
 
-greatest_small : (k : Space) → KeepsLimits k → greatest (used k.facets) ≤ 60000
+greatest_small : (k : ComplexView) → KeepsLimits k → greatest (used k.facets) ≤ 60000
 greatest_small k h = each_at 60000 (length (used k.facets) - 1) (used k.facets) (each_rising nat_cmp (λ x. x ≤ 60000) (flat_map (λ f. f) k.facets) (each_flat (λ x. x ≤ 60000) k.facets h.small))
 
-pub room_fits : (k : Space) (name : List ℕ) (room : ℕ) (is js : List Item) → KeepsLimits k → stated name 1024 is ≡ Ok (room, js) → greatest (used k.facets) + room ≤ 65535
+pub room_fits : (k : ComplexView) (name : List ℕ) (room : ℕ) (is js : List Item) → KeepsLimits k → stated name 1024 is ≡ Ok (room, js) → greatest (used k.facets) + room ≤ 65535
 room_fits k name room is js h r = omega (arith, greatest_small k h, (stated_ok name 1024 room is js r).1)
 
 -- ---- events in the labels of the trace

@@ -4,7 +4,7 @@ use Rattle.std.specs.Str.{bytes_eq}
 use Rattle.std.specs.Str.Parse.{digits_value}
 use Rattle.complex_core.specs.Maps.{names_of, pair_cmp, turned}
 use Rattle.complex_core.specs.Rising.{rising}
-use Rattle.complex_core.specs.Spaces.{Space}
+use Rattle.complex_core.specs.Complexes.{ComplexView}
 use Rattle.facet_text.specs.declared.fault.TextFault.{TextFault}
 use Rattle.facet_text.specs.Grammar.{complex_at}
 use Rattle.facet_text.specs.Lines.{Item, items, line_end, word}
@@ -130,11 +130,11 @@ unfoldable mutual
 -- ---- the whole
 
 -- each label that is used or spare, with its place
-abbrev pub places_in : Space → ℕ → List (ℕ × ℕ)
+abbrev pub places_in : ComplexView → ℕ → List (ℕ × ℕ)
 places_in k room = rising pair_cmp (turned (names_of k.facets room))
 
 -- the lines after a complex
-abbrev pub lines_after : Space → List Item → Reading Trace
+abbrev pub lines_after : ComplexView → List Item → Reading Trace
 lines_after k is =
     after (stated (codes "workers") 16 (line_start is)) (λ workers.
     after (stated (codes "room") 1024 (line_start workers.1)) (λ room.

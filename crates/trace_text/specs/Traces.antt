@@ -2,7 +2,7 @@
 use Rattle.std.specs.Prelude.{◌≡◌, true, ℕ, ◌≤◌, ◌<◌, Bool, List, length, ◌⊎◌}
 use Rattle.std.specs.List.{AllByRecursion}
 use Rattle.complex_core.specs.Labels.{IsFace}
-use Rattle.complex_core.specs.Spaces.{Space}
+use Rattle.complex_core.specs.Complexes.{ComplexView}
 use Rattle.complex_core.specs.Maps.{names_of, reaches}
 use Rattle.flip_world.specs.declared.event.Event.{Event}
 use Rattle.flip_world.specs.declared.event.Event.TheVariants as event
@@ -10,7 +10,7 @@ use Rattle.flip_world.specs.Steps.{worker_of}
 
 -- a complex, how many workers there are, how many spare labels, and events in the labels of the complex
 pub record Trace : Type 0 where
-  pub start : Space
+  pub start : ComplexView
   pub workers : ℕ
   pub room : ℕ
   pub events : List Event

@@ -27,10 +27,10 @@ fn read_worker(bytes: &[u8], from: usize) -> Result<(u16, usize), TraceFault>
     ensures read { (make : ℕ → Asked) → MatchResult result
         (λ x. of_worker make (items bytes.now from) ≡ Ok (make x.0, items bytes.now x.1))
         (λ e. of_worker make (items bytes.now from) ≡ Err e) }
-    ensures place { IfOk result (λ x. (from < x.1) × (x.1 ≤ length bytes.now)) }
+    ensures offset { IfOk result (λ x. (from < x.1) × (x.1 ≤ length bytes.now)) }
 {
-    let (worker, place) = count_here(bytes, from, MOST_WORKERS)?;
-    let end = end_here(bytes, place)?;
+    let (worker, offset) = count_here(bytes, from, MOST_WORKERS)?;
+    let end = end_here(bytes, offset)?;
     Ok((worker, end))
 }
 
@@ -45,7 +45,7 @@ fn read_place(
     ensures read { (make : ℕ → ℕ → Asked) → MatchResult result
         (λ x. of_place make places.now (items bytes.now from) ≡ Ok (make x.0.0 x.0.1, items bytes.now x.1))
         (λ e. of_place make places.now (items bytes.now from) ≡ Err e) }
-    ensures place { IfOk result (λ x. (from < x.1) × (x.1 ≤ length bytes.now)) }
+    ensures offset { IfOk result (λ x. (from < x.1) × (x.1 ≤ length bytes.now)) }
 {
     let (worker, next) = count_here(bytes, from, MOST_WORKERS)?;
     let (place, last) = place_here(bytes, next, places)?;
@@ -59,7 +59,7 @@ fn flip_here(bytes: &[u8], from: usize, places: &VertexMap) -> Result<(Flip, usi
     ensures read { MatchResult result
         (λ x. in_line (flip_at (labels_of places.now) (items bytes.now from)) ≡ Ok (x.0, items bytes.now x.1))
         (λ e. in_line (flip_at (labels_of places.now) (items bytes.now from)) ≡ Err e) }
-    ensures place { IfOk result (λ x. (from < x.1) × (x.1 ≤ length bytes.now)) }
+    ensures offset { IfOk result (λ x. (from < x.1) × (x.1 ≤ length bytes.now)) }
 {
     let read = read_flip(bytes, from, Labels::Of(places))?;
     Ok(read)
@@ -72,7 +72,7 @@ fn read_move(bytes: &[u8], from: usize, places: &VertexMap) -> Result<(Event, us
     ensures read { MatchResult result
         (λ x. of_flip places.now (items bytes.now from) ≡ Ok (x.0, items bytes.now x.1))
         (λ e. of_flip places.now (items bytes.now from) ≡ Err e) }
-    ensures place { IfOk result (λ x. (from < x.1) × (x.1 ≤ length bytes.now)) }
+    ensures offset { IfOk result (λ x. (from < x.1) × (x.1 ≤ length bytes.now)) }
 {
     let (worker, middle) = count_here(bytes, from, MOST_WORKERS)?;
     let (flip, last) = flip_here(bytes, middle, places)?;
@@ -98,7 +98,7 @@ fn read_event(
     ensures read { MatchResult result
         (λ x. event_on places.now word.now.text.now word.now.start (items bytes.now word.now.end) ≡ Ok (x.0, items bytes.now x.1))
         (λ e. event_on places.now word.now.text.now word.now.start (items bytes.now word.now.end) ≡ Err e) }
-    ensures place { IfOk result (λ x. (word.now.end < x.1) × (x.1 ≤ length bytes.now)) }
+    ensures offset { IfOk result (λ x. (word.now.end < x.1) × (x.1 ≤ length bytes.now)) }
 {
     if is_named(word.text, b"claim") {
         let ((worker, place), end) = read_place(bytes, word.end, places)?;
@@ -136,11 +136,11 @@ pub(crate) fn read_events(
     ensures few { IfOk result (λ v. length v.items ≤ length bytes.now) }
 {
     let mut events = Vec::new(alloc);
-    let mut place = from;
-    'events: while let Some(word) = first_word(bytes, place) {
+    let mut offset = from;
+    'events: while let Some(word) = first_word(bytes, offset) {
         let (event, end) = read_event(bytes, &word, places)?;
         events.push(event)?;
-        place = end;
+        offset = end;
     }
     Ok(events)
 }

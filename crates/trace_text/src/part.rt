@@ -50,7 +50,7 @@ pub(crate) fn count_here(bytes: &[u8], from: usize, most: u16) -> Result<(u16, u
     ensures read { MatchResult result
         (λ n. count_from most (items bytes.now from) ≡ Ok (n.0, items bytes.now n.1))
         (λ e. count_from most (items bytes.now from) ≡ Err e) }
-    ensures place { IfOk result (λ n. (from < n.1) × (n.1 ≤ length bytes.now)) }
+    ensures offset { IfOk result (λ n. (from < n.1) × (n.1 ≤ length bytes.now)) }
 {
     let word = match word_here(bytes, from) {
         Ok(word) => word,
@@ -76,7 +76,7 @@ pub(crate) fn place_here(
     ensures read { MatchResult result
         (λ n. place_from places.now (items bytes.now from) ≡ Ok (n.0, items bytes.now n.1))
         (λ e. place_from places.now (items bytes.now from) ≡ Err e) }
-    ensures place { IfOk result (λ n. (from < n.1) × (n.1 ≤ length bytes.now)) }
+    ensures offset { IfOk result (λ n. (from < n.1) × (n.1 ≤ length bytes.now)) }
 {
     let word = match word_here(bytes, from) {
         Ok(word) => word,
@@ -104,7 +104,7 @@ pub(crate) fn stated_next(
     ensures read { MatchResult result
         (λ n. stated name.now most (line_start (items bytes.now from)) ≡ Ok (n.0, items bytes.now n.1))
         (λ e. stated name.now most (line_start (items bytes.now from)) ≡ Err e) }
-    ensures place { IfOk result (λ n. (from ≤ n.1) × (n.1 ≤ length bytes.now)) }
+    ensures offset { IfOk result (λ n. (from ≤ n.1) × (n.1 ≤ length bytes.now)) }
 {
     let Some(word) = first_word(bytes, from) else {
         return Err(TraceFault::Syntax(bytes.len()));

@@ -35,11 +35,11 @@ pub fn read_trace(alloc: Global, bytes: &[u8]) -> Result<Trace, TraceFault>
     ensures limits { IfOk result KeepsTraceLimits }
     ensures few { IfOk result (λ t. length t.events ≤ length bytes.now) }
 {
-    let (complex, place) = read_complex(alloc, bytes, 0)?;
-    let (workers, place) = stated_next(bytes, place, b"workers", MOST_WORKERS)?;
-    let (room, place) = stated_next(bytes, place, b"room", MOST_SPARES)?;
+    let (complex, offset) = read_complex(alloc, bytes, 0)?;
+    let (workers, offset) = stated_next(bytes, offset, b"workers", MOST_WORKERS)?;
+    let (room, offset) = stated_next(bytes, offset, b"room", MOST_SPARES)?;
     let places = places_in(&complex, room)?;
-    let events = read_events(alloc, bytes, place, &places)?;
+    let events = read_events(alloc, bytes, offset, &places)?;
     Ok(Trace {
         complex,
         workers,

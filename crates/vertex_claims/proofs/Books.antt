@@ -3,16 +3,16 @@ use Rattle.std.proofs.Common.{◌≡◌, ◌≢◌, ℕ, ◌≤◌, eqb, true, f
 use mathlib.Core.Option.{Option, some, none, some-injective}
 use Rattle.atomic_table.specs.Table.{rest}
 use Rattle.board_rule.proofs.Items.{tested, off, has_flipped}
-use Rattle.complex_core.specs.Spaces.{Space}
+use Rattle.complex_core.specs.Complexes.{ComplexView}
 use Rattle.flip_rules.specs.Entries.{JournalEntry}
 use Rattle.board_rule.specs.Books.{Book}
 use Rattle.board_rule.specs.Items.{item, has_item}
-use Rattle.board_rule.specs.Views.{keeps, hand_of, without_journal, committed}
+use Rattle.board_rule.specs.Views.{keeps, pass_view_of, without_journal, committed}
 use Rattle.board_rule.specs.Plays.{Seated}
 use Rattle.vertex_claims.specs.Held.{Shuffled, slot_at, knows, HasBook, HasRoom, is_journal, entries_in, room_in}
 use Rattle.board_rule.specs.declared.data.Slot.{Slot}
 use Rattle.board_rule.specs.declared.data.Slot.TheVariants.{Journal, Home, Out}
-use Rattle.board_rule.specs.declared.view.Hand.{Hand}
+use Rattle.board_rule.specs.declared.view.PassView.{PassView}
 use Rattle.board_rule.specs.declared.view.View.{View}
 
 pub book_after : (m n : Seated) → slot_at n 0 ≡ slot_at m 0 → (knows n).has_journal ≡ (knows m).has_journal → (knows n).journal ≡ (knows m).journal → HasBook m → HasBook n
@@ -42,28 +42,28 @@ journal_front old mid x s e k has =
     let j = journal_there (slot_at old 0) (k has).0 in
     (j.0, some-injective x (Journal j.0) (sym (front_slot mid 0 x (rest mid.1) e) ∙ (s.slots 0 ∙ j.1)))
 
-pub without_journal_keeps : (v : Hand) → (keeps (without_journal v) 0 ≡ false) × ((q : ℕ) → q ≢ 0 → keeps (without_journal v) q ≡ keeps v q)
+pub without_journal_keeps : (v : PassView) → (keeps (without_journal v) 0 ≡ false) × ((q : ℕ) → q ≢ 0 → keeps (without_journal v) q ≡ keeps v q)
 without_journal_keeps v = (refl, λ q ne. tested q 0 (λ b. cond b false (has_item v.items q) ≡ cond b v.has_journal (has_item v.items q)) (λ e. absurd (ne e)) (λ _. refl))
 
-pub committed_keeps : (v : Hand) (e : JournalEntry) (k : Space) → (keeps (committed v e k) 0 ≡ false) × ((q : ℕ) → q ≢ 0 → keeps (committed v e k) q ≡ keeps v q)
+pub committed_keeps : (v : PassView) (e : JournalEntry) (k : ComplexView) → (keeps (committed v e k) 0 ≡ false) × ((q : ℕ) → q ≢ 0 → keeps (committed v e k) q ≡ keeps v q)
 committed_keeps v e k = (refl, λ q ne. tested q 0 (λ b. cond b false (has_item (committed v e k).items q) ≡ cond b v.has_journal (has_item v.items q)) (λ z. absurd (ne z)) (λ _. has_flipped e.flips v.items q))
 
 -- the journal is put back, with the same entries
 pub book_again : (old mid new : Seated) (b b' : Book) → Shuffled old mid → mid.1 ≡ (0, Journal b) ∷ rest mid.1 → new ≡ (mid.0, (0, Journal b') ∷ rest mid.1) → b'.entries ≡ b.entries → HasBook old → HasBook new
 book_again old mid new b b' s e ends same k has =
-    let has_old : (knows old).has_journal ≡ true = sym (ap (λ (v : View). (hand_of v).has_journal) s.view) ∙ (sym (ap (λ (m : Seated). (knows m).has_journal) ends) ∙ has) in
+    let has_old : (knows old).has_journal ≡ true = sym (ap (λ (v : View). (pass_view_of v).has_journal) s.view) ∙ (sym (ap (λ (m : Seated). (knows m).has_journal) ends) ∙ has) in
     let at = front_slot new 0 (Journal b') (rest mid.1) (ap (λ (m : Seated). m.1) ends) in
     let l = entries_of_front old mid b s e k has_old in
-    (ap is_journal at, ap entries_in at ∙ (same ∙ (l ∙ (sym (ap (λ (v : View). (hand_of v).journal) s.view) ∙ sym (ap (λ (m : Seated). (knows m).journal) ends)))))
+    (ap is_journal at, ap entries_in at ∙ (same ∙ (l ∙ (sym (ap (λ (v : View). (pass_view_of v).journal) s.view) ∙ sym (ap (λ (m : Seated). (knows m).journal) ends)))))
 
 -- a slot that has no journal changes
 pub book_put : (old new : Seated) (p : ℕ) (x y : Slot) → slot_at old p ≡ some x → is_journal (some x) ≡ false → ((q : ℕ) → slot_at new q ≡ cond (eqb p q) (some y) (slot_at old q)) → new.0 ≡ old.0 → HasBook old → HasBook new
 book_put old new p x y at none_of puts view k has =
-    let has_old : (knows old).has_journal ≡ true = sym (ap (λ (v : View). (hand_of v).has_journal) view) ∙ has in
+    let has_old : (knows old).has_journal ≡ true = sym (ap (λ (v : View). (pass_view_of v).has_journal) view) ∙ has in
     let t = k has_old in
     tested p 0 (λ b. slot_at new 0 ≡ cond b (some y) (slot_at old 0) → (is_journal (slot_at new 0) ≡ true) × (entries_in (slot_at new 0) ≡ (knows new).journal))
     (λ e _. off (sym none_of ∙ (ap is_journal (sym (ap (λ (q : ℕ). slot_at old q) (sym e) ∙ at)) ∙ t.0)))
-    (λ _ s. (ap is_journal s ∙ t.0, ap entries_in s ∙ (t.1 ∙ sym (ap (λ (v : View). (hand_of v).journal) view))))
+    (λ _ s. (ap is_journal s ∙ t.0, ap entries_in s ∙ (t.1 ∙ sym (ap (λ (v : View). (pass_view_of v).journal) view))))
     (puts 0)
 
 -- what room there is known to be, where a slot that has no journal changes

@@ -2,7 +2,7 @@
 use Rattle.std.proofs.Common.{◌≡◌, ℕ, zero, suc, ◌+◌, ◌-◌, ◌<◌, ◌≤◌, List, [], ◌∷◌, ◌++◌, map, length, get_or, replicate, sym, refl, ap, ◌∙◌, subst, arith}
 use mathlib.Core.Option.{some, some-injective}
 use lib.ListN.{get_elem?}
-use Rattle.complex_core.specs.Spaces.{Space, IsComplex}
+use Rattle.complex_core.specs.Complexes.{ComplexView, IsComplex}
 use Rattle.flip_rules.specs.Entries.{JournalEntry}
 use Rattle.star_laws.specs.Stars.{star}
 use Rattle.stars.specs.StarViews.{VertexStar, StarList, numbered, all_stars, places_in, UsesUpTo, IsStarListOf}
@@ -10,11 +10,11 @@ use Rattle.stars.specs.Building.{stars_of}
 use Rattle.board_rule.specs.Books.{Book}
 use Rattle.board_rule.specs.Views.{home, home_at}
 use Rattle.board_rule.specs.Ends.{Opens, Closes}
-use Rattle.board_rule.specs.declared.about.About.{About}
-use Rattle.board_rule.specs.declared.data.Home.{Home as HomeOf}
+use Rattle.board_rule.specs.declared.setup.Setup.{Setup}
+use Rattle.board_rule.specs.declared.data.VersionedStar.{VersionedStar}
 use Rattle.board_rule.specs.declared.data.Slot.{Slot}
 use Rattle.board_rule.specs.declared.data.Slot.TheVariants.{Journal, Home}
-use Rattle.board_rule.specs.declared.view.Chief.{Chief}
+use Rattle.board_rule.specs.declared.view.MainView.{MainView}
 use Rattle.vertex_claims.specs.Ended.{IsEnd}
 
 -- ---- at the start
@@ -27,7 +27,7 @@ numbered_slot d n p [] k h is = absurd (omega arith)
 numbered_slot d n p (x ∷ xs) zero h is = let e : n + 1 ≡ p = omega arith in λ i. some (Home (home (record { vertex = e i; dim = d; rows = x }) 0))
 numbered_slot d n p (x ∷ xs) (suc k) h is = numbered_slot d (n + 1) p xs k (omega arith) (omega arith)
 
-first_at : (k : Space) (m : StarList) (b : Book) (p : ℕ) → IsStarListOf k m → 0 < p → p ≤ places_in m → get_elem? (Journal b ∷ map slot_of (all_stars m)) p ≡ some (Home (home_at k [] p))
+first_at : (k : ComplexView) (m : StarList) (b : Book) (p : ℕ) → IsStarListOf k m → 0 < p → p ≤ places_in m → get_elem? (Journal b ∷ map slot_of (all_stars m)) p ≡ some (Home (home_at k [] p))
 first_at k m b zero l pos near = absurd (omega arith)
 first_at k m b (suc j) l pos near =
     let back : suc j - 1 ≡ j = omega arith in
@@ -37,9 +37,9 @@ first_at k m b (suc j) l pos near =
     numbered_slot m.dim 0 (suc j) m.stars j (omega arith) e ∙ (λ i. some (Home (home (record { vertex = suc j; dim = dim i; rows = rows i }) 0)))
 
 -- a board may be opened with these words and slots
-pub may_open : (about : About) (words : List ℕ) (slots : List Slot) (m : StarList) (stars : List VertexStar) (b : Book) → IsStarListOf about.start.value m → places_in m ≡ about.places → stars ≡ all_stars m → b.entries ≡ [] → words ≡ replicate (about.places + 1) 0
-    → slots ≡ Journal b ∷ map slot_of stars → UsesUpTo about.start.value about.places → Opens about words slots
-may_open about words slots m stars b l long same none_yet zeros are within =
+pub may_open : (setup : Setup) (words : List ℕ) (slots : List Slot) (m : StarList) (stars : List VertexStar) (b : Book) → IsStarListOf setup.start.value m → places_in m ≡ setup.places → stars ≡ all_stars m → b.entries ≡ [] → words ≡ replicate (setup.places + 1) 0
+    → slots ≡ Journal b ∷ map slot_of stars → UsesUpTo setup.start.value setup.places → Opens setup words slots
+may_open setup words slots m stars b l long same none_yet zeros are within =
     let all : slots ≡ Journal b ∷ map slot_of (all_stars m) = are ∙ ap (λ (ss : List VertexStar). Journal b ∷ map slot_of ss) same in
     record {
       complex = l.complex;
@@ -47,7 +47,7 @@ may_open about words slots m stars b l long same none_yet zeros are within =
       free = zeros;
       room = b.room;
       journal = ap (λ (s : List Slot). get_elem? s 0) all ∙ ap (λ (es : List JournalEntry). some (Journal record { entries = es; room = b.room })) none_yet;
-      stars = λ p pos near. ap (λ (s : List Slot). get_elem? s p) all ∙ first_at about.start.value m b p l pos (omega arith);
+      stars = λ p pos near. ap (λ (s : List Slot). get_elem? s p) all ∙ first_at setup.start.value m b p l pos (omega arith);
     }
 
 -- ---- at the end
@@ -55,7 +55,7 @@ may_open about words slots m stars b l long same none_yet zeros are within =
 same_book : (a b : Book) → some (Journal a) ≡ some (Journal b) → a ≡ b
 same_book a b h = let e : Journal a ≡ Journal b = some-injective (Journal a) (Journal b) h in cc
 
-pub same_home : (a b : HomeOf) → some (Home a) ≡ some (Home b) → a ≡ b
+pub same_home : (a b : VersionedStar) → some (Home a) ≡ some (Home b) → a ≡ b
 same_home a b h = let e : Home a ≡ Home b = some-injective (Home a) (Home b) h in cc
 
 -- one place more
@@ -84,7 +84,7 @@ each_star d e facets n (suc count) (x ∷ xs) h =
     let t = each_star d e facets (n + 1) count xs tail in
     (ap suc t.0, one_more facets n count x xs (ap (λ (s : VertexStar). s.rows) head) t.1)
 
-pub are_stars : (k : Space) (m : StarList) (count : ℕ) → IsComplex k → UsesUpTo k count → m.dim ≡ k.dim → all_stars m ≡ stars_of k.dim k.facets 0 count → IsStarListOf k m × (places_in m ≡ count)
+pub are_stars : (k : ComplexView) (m : StarList) (count : ℕ) → IsComplex k → UsesUpTo k count → m.dim ≡ k.dim → all_stars m ≡ stars_of k.dim k.facets 0 count → IsStarListOf k m × (places_in m ≡ count)
 are_stars k m count complex within dim all =
     let t = each_star m.dim k.dim k.facets 0 count m.stars all in (
       record {
@@ -97,14 +97,14 @@ are_stars k m count complex within dim all =
     )
 
 -- what a board tells when it is closed
-pub is_end : (about : About) (c : Chief) (slots : List Slot) (x : Closes about c slots) (book : Book) (journal : List JournalEntry) (m : StarList) → get_elem? slots 0 ≡ some (Journal book) → journal ≡ book.entries → m.dim ≡ about.start.value.dim
-    → all_stars m ≡ stars_of x.now.dim x.now.facets 0 about.places → x.now.dim ≡ about.start.value.dim → IsEnd about c journal m
-is_end about c slots x book journal m first same dim all now_dim =
+pub is_end : (setup : Setup) (c : MainView) (slots : List Slot) (x : Closes setup c slots) (book : Book) (journal : List JournalEntry) (m : StarList) → get_elem? slots 0 ≡ some (Journal book) → journal ≡ book.entries → m.dim ≡ setup.start.value.dim
+    → all_stars m ≡ stars_of x.now.dim x.now.facets 0 setup.places → x.now.dim ≡ setup.start.value.dim → IsEnd setup c journal m
+is_end setup c slots x book journal m first same dim all now_dim =
     let book_is : x.book ≡ book = same_book x.book book (sym x.journal ∙ first) in
     let journal_is : x.book.entries ≡ journal = ap (λ (b : Book). b.entries) book_is ∙ sym same in
-    subst (λ (es : List JournalEntry). IsEnd about c es m) journal_is (
+    subst (λ (es : List JournalEntry). IsEnd setup c es m) journal_is (
     let w = x.closed.written in
-    let stars = are_stars x.now m about.places w.complex w.within (dim ∙ sym now_dim) all in
+    let stars = are_stars x.now m setup.places w.complex w.within (dim ∙ sym now_dim) all in
     record {
       now = x.now;
       replays = w.replays;

@@ -2,7 +2,7 @@
 use Rattle.std.proofs.Common.{◌≡◌, ◌≢◌, ℕ, ◌≤◌, Bool, false, List, get_or, set, sym, ap, ◌∙◌, subst, arith, length-set, get_or-set_same, get_or-set_other}
 use mathlib.Core.Logic.{dite}
 use native.Mathlib.Decide.{ℕ_discrete}
-use Rattle.board_rule.specs.Views.{keeps, hand_of}
+use Rattle.board_rule.specs.Views.{keeps, pass_view_of}
 use Rattle.board_rule.specs.Plays.{Seated}
 use Rattle.board_rule.specs.declared.view.View.{View}
 use Rattle.vertex_claims.specs.Held.{Flagged, knows}
@@ -12,7 +12,7 @@ pub flags_same : (m n : Seated) (flags : List Bool) (places : ℕ) → ((q : ℕ
 flags_same m n flags places same f = record { long = f.long; each = λ p near. f.each p near ∙ sym (same p) }
 
 pub flags_view : (m n : Seated) (flags : List Bool) (places : ℕ) → n.0 ≡ m.0 → Flagged m flags places → Flagged n flags places
-flags_view m n flags places view f = flags_same m n flags places (λ q. ap (λ (v : View). keeps (hand_of v) q) view) f
+flags_view m n flags places view f = flags_same m n flags places (λ q. ap (λ (v : View). keeps (pass_view_of v) q) view) f
 
 -- one place comes or goes
 pub flags_set : (m n : Seated) (flags : List Bool) (places p k : ℕ) (b : Bool) → Flagged m flags places → k ≡ p → p ≤ places → keeps (knows n) p ≡ b → ((q : ℕ) → q ≢ p → keeps (knows n) q ≡ keeps (knows m) q) → Flagged n (set flags k b) places

@@ -6,21 +6,21 @@ use Rattle.std.proofs.lemmas.Map.Steps.{length-le_from_distinct_below}
 use Rattle.atomic_table.specs.Table.{rest}
 use Rattle.board_rule.proofs.Items.{tested, off, has_cons_here, has_cons_else, has_without_here, has_without_else}
 use Rattle.vertex_claims.proofs.Turns.{single_parts}
-use Rattle.complex_core.specs.Spaces.{Space}
+use Rattle.complex_core.specs.Complexes.{ComplexView}
 use Rattle.board_rule.specs.Tries.{Try, wins}
 use Rattle.vertex_claims.specs.Marks.{mark_of, marks_of}
 use Rattle.board_rule.specs.Items.{item, has_item, single, places_of, without}
-use Rattle.board_rule.specs.Views.{Empty, keeps, hand_of, is_pass, is_main, chief_of, opened_by, without_item}
+use Rattle.board_rule.specs.Views.{Empty, keeps, pass_view_of, is_pass, is_main, main_view_of, opened_by, without_item}
 use Rattle.board_rule.specs.Plays.{Seated}
 use Rattle.vertex_claims.specs.Held.{Ready, Shuffled, slot_at, knows}
-use Rattle.board_rule.specs.declared.data.Home.{Home as HomeOf}
+use Rattle.board_rule.specs.declared.data.VersionedStar.{VersionedStar}
 use Rattle.board_rule.specs.declared.data.Slot.{Slot}
 use Rattle.board_rule.specs.declared.data.Slot.TheVariants.{Out}
-use Rattle.board_rule.specs.declared.view.Hand.{Hand}
+use Rattle.board_rule.specs.declared.view.PassView.{PassView}
 use Rattle.board_rule.specs.declared.view.View.{View}
 use Rattle.board_rule.specs.declared.view.View.TheVariants.{Main, Pass, Spent}
 
-pub is_a_pass : (x : View) → is_pass x ≡ true → x ≡ Pass (hand_of x)
+pub is_a_pass : (x : View) → is_pass x ≡ true → x ≡ Pass (pass_view_of x)
 is_a_pass (Main c) h = off h
 is_a_pass (Pass v) h = refl
 is_a_pass Spent h = off h
@@ -53,8 +53,8 @@ room_left l p n one below free near =
     omega arith
 
 -- the place in front goes
-ready_less_at : (x : View) (c l : List (ℕ × Slot)) (order order' : List ℕ) (room worker p : ℕ) (y : Slot) (w : Hand) → c ≡ (p, y) ∷ l → Ready (x, c) order room worker → order' ≡ places_of l → w.worker ≡ (hand_of x).worker
-    → keeps w p ≡ false → ((q : ℕ) → q ≢ p → keeps w q ≡ keeps (hand_of x) q) → Ready (Pass w, l) order' room worker
+ready_less_at : (x : View) (c l : List (ℕ × Slot)) (order order' : List ℕ) (room worker p : ℕ) (y : Slot) (w : PassView) → c ≡ (p, y) ∷ l → Ready (x, c) order room worker → order' ≡ places_of l → w.worker ≡ (pass_view_of x).worker
+    → keeps w p ≡ false → ((q : ℕ) → q ≢ p → keeps w q ≡ keeps (pass_view_of x) q) → Ready (Pass w, l) order' room worker
 ready_less_at x c l order order' room worker p y w is r ord same now others =
     let one : single ((p, y) ∷ l) ≡ true = ap single (sym is) ∙ r.once in
     let t = single_parts (p, y) l one in
@@ -64,11 +64,11 @@ ready_less_at x c l order order' room worker p y w is r ord same now others =
       number = same ∙ r.number;
       ordered = ord;
       once = t.1;
-      agrees = λ q. tested p q (λ b. cond b true (has_item l q) ≡ keeps (hand_of x) q → has_item l q ≡ keeps w q) (λ e _. subst (λ (k : ℕ). has_item l k ≡ keeps w k) e (t.0 ∙ sym now)) (λ ne g. g ∙ sym (others q (λ e. ne (sym e)))) (sym (back q) ∙ r.agrees q);
+      agrees = λ q. tested p q (λ b. cond b true (has_item l q) ≡ keeps (pass_view_of x) q → has_item l q ≡ keeps w q) (λ e _. subst (λ (k : ℕ). has_item l k ≡ keeps w k) e (t.0 ∙ sym now)) (λ ne g. g ∙ sym (others q (λ e. ne (sym e)))) (sym (back q) ∙ r.agrees q);
       below = λ q h. r.below q (back q ∙ tested p q (λ b. cond b true (has_item l q) ≡ true) (λ _. refl) (λ _. h));
     }
 
-pub ready_less : (m n : Seated) (order order' : List ℕ) (room worker p : ℕ) (y : Slot) (w : Hand) → m.1 ≡ (p, y) ∷ rest m.1 → n ≡ (Pass w, rest m.1) → Ready m order room worker → order' ≡ places_of (rest m.1) → w.worker ≡ (knows m).worker
+pub ready_less : (m n : Seated) (order order' : List ℕ) (room worker p : ℕ) (y : Slot) (w : PassView) → m.1 ≡ (p, y) ∷ rest m.1 → n ≡ (Pass w, rest m.1) → Ready m order room worker → order' ≡ places_of (rest m.1) → w.worker ≡ (knows m).worker
     → keeps w p ≡ false → ((q : ℕ) → q ≢ p → keeps w q ≡ keeps (knows m) q) → Ready n order' room worker
 ready_less m n order order' room worker p y w is ends r ord same now others = subst (λ (z : Seated). Ready z order' room worker) (sym ends) (ready_less_at m.0 m.1 (rest m.1) order order' room worker p y w is r ord same now others)
 
@@ -80,10 +80,10 @@ order_rest order m p y o is = ap (drop 1) (o ∙ ap places_of is)
 pub ready_shuffled : (m n : Seated) (order order' : List ℕ) (room worker : ℕ) → Ready m order room worker → Shuffled m n → order' ≡ places_of n.1 → Ready n order' room worker
 ready_shuffled m n order order' room worker r s is = record {
   passes = ap is_pass s.view ∙ r.passes;
-  number = ap (λ (x : View). (hand_of x).worker) s.view ∙ r.number;
+  number = ap (λ (x : View). (pass_view_of x).worker) s.view ∙ r.number;
   ordered = is;
   once = s.once ∙ r.once;
-  agrees = λ p. s.has p ∙ (r.agrees p ∙ ap (λ (x : View). keeps (hand_of x) p) (sym s.view));
+  agrees = λ p. s.has p ∙ (r.agrees p ∙ ap (λ (x : View). keeps (pass_view_of x) p) (sym s.view));
   below = λ p h. r.below p (sym (s.has p) ∙ h);
 }
 
@@ -132,18 +132,18 @@ pub ready_swapped : (old mid new : Seated) (order order' : List ℕ) (room worke
 ready_swapped old mid new order order' room worker p x y r s ord is ends = ready_put mid new order' room worker p x y (ready_shuffled old mid order order' room worker r s ord) is ends
 
 -- a place is brought to the front, and goes
-pub ready_gone : (old mid new : Seated) (order order' : List ℕ) (room worker p : ℕ) (y : Slot) (w : Hand) → Ready old order room worker → Shuffled old mid → order' ≡ places_of mid.1 → mid.1 ≡ (p, y) ∷ rest mid.1
+pub ready_gone : (old mid new : Seated) (order order' : List ℕ) (room worker p : ℕ) (y : Slot) (w : PassView) → Ready old order room worker → Shuffled old mid → order' ≡ places_of mid.1 → mid.1 ≡ (p, y) ∷ rest mid.1
     → new ≡ (Pass w, rest mid.1) → w.worker ≡ (knows mid).worker → keeps w p ≡ false → ((q : ℕ) → q ≢ p → keeps w q ≡ keeps (knows mid) q) → Ready new (drop 1 order') room worker
 ready_gone old mid new order order' room worker p y w r s ord is ends number now others = ready_less mid new order' (drop 1 order') room worker p y w is ends (ready_shuffled old mid order order' room worker r s ord) (order_rest order' mid p y ord is) number now others
 
 -- what a pass has after each release
-pub without_keeps : (v : Hand) (p : ℕ) → 0 < p → (keeps (without_item v p) p ≡ false) × ((q : ℕ) → q ≢ p → keeps (without_item v p) q ≡ keeps v q)
+pub without_keeps : (v : PassView) (p : ℕ) → 0 < p → (keeps (without_item v p) p ≡ false) × ((q : ℕ) → q ≢ p → keeps (without_item v p) q ≡ keeps v q)
 without_keeps v p pos = (
   tested p 0 (λ b. cond b v.has_journal (has_item (without p v.items) p) ≡ false) (λ e. absurd (omega arith)) (λ _. has_without_here p v.items),
   λ q ne. ap (λ (h : Bool). cond (eqb q 0) v.has_journal h) (has_without_else p q v.items ne),
 )
 
-pub is_a_main : (x : View) → is_main x ≡ true → x ≡ Main (chief_of x)
+pub is_a_main : (x : View) → is_main x ≡ true → x ≡ Main (main_view_of x)
 is_a_main (Main c) h = refl
 is_a_main (Pass v) h = off h
 is_a_main Spent h = off h
@@ -169,16 +169,16 @@ length-marks [] = refl
 length-marks (t ∷ ts) = let i = length-marks ts in omega (arith, length-append (marks_of ts) (mark_of t ∷ []))
 
 -- what a pass holds after a first claim
-pub opened_keeps : (v : Hand) (p w : ℕ) (x : HomeOf) (k : Space) → 0 < p → w ≡ p → (keeps (opened_by v w x k) p ≡ true) × ((q : ℕ) → q ≢ p → keeps (opened_by v w x k) q ≡ keeps v q)
+pub opened_keeps : (v : PassView) (p w : ℕ) (x : VersionedStar) (k : ComplexView) → 0 < p → w ≡ p → (keeps (opened_by v w x k) p ≡ true) × ((q : ℕ) → q ≢ p → keeps (opened_by v w x k) q ≡ keeps v q)
 opened_keeps v p w x k pos same = subst (λ (j : ℕ). (keeps (opened_by v j x k) p ≡ true) × ((q : ℕ) → q ≢ p → keeps (opened_by v j x k) q ≡ keeps v q)) (sym same) (
   tested p 0 (λ b. cond b v.has_journal (has_item ((p, x) ∷ v.items) p) ≡ true) (λ e. absurd (omega arith)) (λ _. has_cons_here p x v.items),
   λ q ne. ap (λ (h : Bool). cond (eqb q 0) v.has_journal h) (has_cons_else p q x v.items ne),
 )
 
 -- what a pass holds after a release
-pub less_keeps : (v : Hand) (p w : ℕ) → 0 < p → w ≡ p → (keeps (without_item v w) p ≡ false) × ((q : ℕ) → q ≢ p → keeps (without_item v w) q ≡ keeps v q)
+pub less_keeps : (v : PassView) (p w : ℕ) → 0 < p → w ≡ p → (keeps (without_item v w) p ≡ false) × ((q : ℕ) → q ≢ p → keeps (without_item v w) q ≡ keeps v q)
 less_keeps v p w pos same = subst (λ (j : ℕ). (keeps (without_item v j) p ≡ false) × ((q : ℕ) → q ≢ p → keeps (without_item v j) q ≡ keeps v q)) (sym same) (without_keeps v p pos)
 
 -- a pass that has no star and no journal holds nothing
-pub holds_nothing : (v : Hand) → v.items ≡ [] → v.has_journal ≡ false → Empty v
-holds_nothing v items journal p = tested p 0 (λ b. cond b v.has_journal (has_item v.items p) ≡ false) (λ _. journal) (λ _. ap (λ (l : List (ℕ × HomeOf)). has_item l p) items)
+pub holds_nothing : (v : PassView) → v.items ≡ [] → v.has_journal ≡ false → Empty v
+holds_nothing v items journal p = tested p 0 (λ b. cond b v.has_journal (has_item v.items p) ≡ false) (λ _. journal) (λ _. ap (λ (l : List (ℕ × VersionedStar)). has_item l p) items)

@@ -4,15 +4,15 @@ use mathlib.Core.Option.{Option, some, none}
 use Rattle.atomic_table.specs.Table.{rest}
 use Rattle.flip_rules.specs.Entries.{JournalEntry}
 use Rattle.board_rule.specs.Items.{item, has_item, single, places_of}
-use Rattle.board_rule.specs.Views.{keeps, hand_of, is_pass}
+use Rattle.board_rule.specs.Views.{keeps, pass_view_of, is_pass}
 use Rattle.board_rule.specs.Plays.{Seated}
 use Rattle.board_rule.specs.declared.data.Slot.{Slot}
 use Rattle.board_rule.specs.declared.data.Slot.TheVariants.{Journal, Home, Out}
-use Rattle.board_rule.specs.declared.view.Hand.{Hand}
+use Rattle.board_rule.specs.declared.view.PassView.{PassView}
 
 -- what the seat knows
-abbrev pub knows : Seated → Hand
-knows m = hand_of m.0
+abbrev pub knows : Seated → PassView
+knows m = pass_view_of m.0
 
 -- what the slot of a place holds, where the seat has it
 abbrev pub slot_at : Seated → ℕ → Option Slot

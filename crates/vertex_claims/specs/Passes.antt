@@ -2,18 +2,18 @@
 use Rattle.std.specs.Prelude.{◌≡◌, ℕ, ◌-◌, cond, ◌==◌, List, length}
 use mathlib.Core.Option.{Option}
 use Rattle.atomic_table.specs.Seated.{TableId}
-use Rattle.complex_core.specs.Spaces.{Space}
+use Rattle.complex_core.specs.Complexes.{ComplexView}
 use Rattle.flip_rules.specs.Entries.{JournalEntry}
 use Rattle.flip_rules.specs.declared.flip.Flip.{Flip}
-use Rattle.board_rule.specs.Views.{hand_of, chief_of}
-use Rattle.board_rule.specs.declared.about.About.{About}
+use Rattle.board_rule.specs.Views.{pass_view_of, main_view_of}
+use Rattle.board_rule.specs.declared.setup.Setup.{Setup}
 use Rattle.board_rule.specs.declared.data.Slot.{Slot}
-use Rattle.board_rule.specs.declared.view.Hand.{Hand}
-use Rattle.board_rule.specs.declared.view.Chief.{Chief}
+use Rattle.board_rule.specs.declared.view.PassView.{PassView}
+use Rattle.board_rule.specs.declared.view.MainView.{MainView}
 use Rattle.vertex_claims.specs.Held.{slot_at}
 use Rattle.vertex_claims.specs.declared.board.Board.{Board}
 use Rattle.vertex_claims.specs.declared.pass.Pass.{Pass}
-use Rattle.vertex_claims.specs.declared.chief.Main.{Main}
+use Rattle.vertex_claims.specs.declared.main_seat.Main.{Main}
 
 -- ---- boards
 
@@ -21,23 +21,23 @@ abbrev pub board_id : Board → TableId
 board_id board = board.table.shared.table_id
 
 -- what it was told when it was opened: the complex that it begins with, its greatest place, how many passes it may have, and its round
-abbrev pub about_of : Board → About
-about_of board = board.table.shared.key
+abbrev pub setup_of : Board → Setup
+setup_of board = board.table.shared.key
 
-abbrev pub start_of : Board → Space
-start_of board = (about_of board).start.value
+abbrev pub start_of : Board → ComplexView
+start_of board = (setup_of board).start.value
 
 abbrev pub places_on : Board → ℕ
-places_on board = (about_of board).places
+places_on board = (setup_of board).places
 
 abbrev pub workers_on : Board → ℕ
-workers_on board = (about_of board).workers
+workers_on board = (setup_of board).workers
 
 abbrev pub round_of : Board → ℕ
-round_of board = (about_of board).round
+round_of board = (setup_of board).round
 
 -- it was told this
-pub record IsTold (board : Board) (start : Space) (places workers round : ℕ) : Type 0 where
+pub record IsTold (board : Board) (start : ComplexView) (places workers round : ℕ) : Type 0 where
   pub start_is : start_of board ≡ start
   pub places_are : places_on board ≡ places
   pub workers_are : workers_on board ≡ workers
@@ -46,8 +46,8 @@ pub record IsTold (board : Board) (start : Space) (places workers round : ℕ) :
 -- ---- main
 
 -- what main keeps
-abbrev pub main_knows : Main → Chief
-main_knows main = chief_of main.seat.me.0
+abbrev pub main_knows : Main → MainView
+main_knows main = main_view_of main.seat.me.0
 
 -- how many passes were handed out
 abbrev pub handed : Main → ℕ
@@ -67,8 +67,8 @@ pub record IsOf (pass : Pass) (board : Board) : Type 0 where
   pub places : pass.places ≡ places_on board
 
 -- what the pass knows
-abbrev pub know : Pass → Hand
-know pass = hand_of pass.seat.me.0
+abbrev pub know : Pass → PassView
+know pass = pass_view_of pass.seat.me.0
 
 -- what its slot of a place holds: none where it doesn't hold the place, and Out where a star was taken out
 abbrev pub slot : Pass → ℕ → Option Slot

@@ -4,7 +4,7 @@ ghost use Rattle.std.specs.List.{AllByRecursion};
 ghost use Rattle.atomic_table.specs.Table.{rest};
 ghost use Rattle.flip_rules.specs.Flips.{OfFaces};
 ghost use Rattle.board_rule.specs.Books.{Book};
-ghost use Rattle.board_rule.specs.declared.data.Home.{Home};
+ghost use Rattle.board_rule.specs.declared.data.VersionedStar.{VersionedStar};
 ghost use Rattle.vertex_claims.specs.Passes.{board_id};
 
 use crate::board::Board;
@@ -49,9 +49,9 @@ pub(crate) fn make_room(seat: &mut Seat<Slot, View>, board: &Board) -> Result<()
 // The version of the star that a seat has in front.
 pub(crate) fn version_in(seat: &mut Seat<Slot, View>, board: &Board, place: u16) -> u64
     requires board { seat.old.table_id ≡ board_id board.now }
-    requires star { (x : Home) × (seat.old.me.1 ≡ (place, Slot.Home x) ∷ rest seat.old.me.1) }
+    requires star { (x : VersionedStar) × (seat.old.me.1 ≡ (place, Slot.Home x) ∷ rest seat.old.me.1) }
     ensures seat { (seat.new.table_id ≡ seat.old.table_id) × (seat.new.id ≡ seat.old.id) × (seat.new.me ≡ seat.old.me) }
-    ensures version { (x : Home) → seat.old.me.1 ≡ (place, Slot.Home x) ∷ rest seat.old.me.1 → result ≡ x.version }
+    ensures version { (x : VersionedStar) → seat.old.me.1 ≡ (place, Slot.Home x) ∷ rest seat.old.me.1 → result ≡ x.version }
 {
     match seat.slot_mut(&board.table.shared, usize::from(place)) {
         Slot::Home(home) => home.version,

@@ -1,13 +1,13 @@
 // A board, from its opening to its close.
 ghost use Rattle.std.specs.Prelude.{◌≡◌, ◌+◌, ◌<◌, ◌≤◌, ◌∷◌, [], IfOk, length};
 ghost use Rattle.std.proofs.Props.{props};
-ghost use Rattle.complex_core.specs.Spaces.{IsComplex};
+ghost use Rattle.complex_core.specs.Complexes.{IsComplex};
 ghost use Rattle.stars.specs.StarViews.{UsesUpTo};
 
-use crate::chief::Main;
-use crate::laying::{homes, unpack};
+use crate::main_seat::Main;
+use crate::slots::{homes, unpack};
 use atomic_table::{Refused, Table};
-use board_rule::{About, Ruling, Slot, View};
+use board_rule::{Setup, Ruling, Slot, View};
 use complex_core::Complex;
 use flip_rules::Journal;
 use stars::StarMap;
@@ -17,7 +17,7 @@ use std::snapshot::Snapshot;
 /// A board, which threads share by reference.
 #[derive(Drop)]
 pub struct Board {
-    pub(crate) table: Table<Slot, View, About, Ruling, Global>,
+    pub(crate) table: Table<Slot, View, Setup, Ruling, Global>,
     pub(crate) dim: u32,
     pub(crate) places: u16,
     pub(crate) workers: u16,
@@ -32,7 +32,7 @@ pub struct Board {
 impl Board {
     ghost use Rattle.board_rule.specs.Ends.{AllBack};
     ghost use Rattle.board_rule.specs.Views.{living};
-    ghost use Rattle.vertex_claims.specs.Passes.{IsMainOf, IsTold, about_of, handed, main_knows, start_of};
+    ghost use Rattle.vertex_claims.specs.Passes.{IsMainOf, IsTold, setup_of, handed, main_knows, start_of};
     ghost use Rattle.vertex_claims.specs.Ended.{IsEnd};
 
     /// A board on which no place is held: each place from 1 has its star in the complex, with version
@@ -55,13 +55,13 @@ impl Board {
         let stars = StarMap::of(alloc, start, places)?.into_stars();
         let slots = homes(alloc, stars)?;
         let words = Vec::from_elem(alloc, 0u64, usize::from(places) + 1)?;
-        let about = About {
+        let setup = Setup {
             start: Snapshot::of(start),
             places,
             workers,
             round,
         };
-        let (table, seat) = match Table::new(alloc, words.as_slice(), slots, &about) {
+        let (table, seat) = match Table::new(alloc, words.as_slice(), slots, &setup) {
             Ok(made) => made,
             Err(Refused { slots: _ }) => return Err(AllocError),
         };
@@ -88,7 +88,7 @@ impl Board {
     pub fn close(self, alloc: Global, main: Main) -> Result<(Journal, StarMap), AllocError>
         requires main { IsMainOf main self }
         requires back { AllBack (main_knows main) }
-        ensures { IfOk result (λ r. IsEnd (about_of self) (main_knows main) r.0 r.1) }
+        ensures { IfOk result (λ r. IsEnd (setup_of self) (main_knows main) r.0 r.1) }
     {
         let stars = Vec::with_capacity(alloc, usize::from(self.places))?;
         let Board {

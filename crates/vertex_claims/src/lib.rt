@@ -9,14 +9,14 @@
 
 mod append;
 mod board;
-mod chief;
+mod main_seat;
 mod count;
-mod laying;
+mod slots;
 mod mark;
 mod pass;
-mod turning;
+mod reordering;
 
 pub use board::Board;
-pub use chief::Main;
+pub use main_seat::Main;
 pub use mark::{Found, Mark, Marks};
 pub use pass::{Claimed, Pass};

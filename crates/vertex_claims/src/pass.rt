@@ -11,9 +11,9 @@ use crate::append::{append, know_faces, make_room, version_in};
 use crate::board::Board;
 use crate::count::count;
 use crate::mark::{Found, Mark, first_mark};
-use crate::turning::bring;
+use crate::reordering::bring;
 use atomic_table::Seat;
-use board_rule::{ClaimFirst, ClaimJournal, ClaimStar, Commit, Home, Leave, Release, Slot, View};
+use board_rule::{ClaimFirst, ClaimJournal, ClaimStar, Commit, VersionedStar, Leave, Release, Slot, View};
 use flip_rules::{Entry, Flip};
 use std::alloc::AllocError;
 use std::collections::VecDeque;
@@ -59,7 +59,7 @@ pub struct Pass {
 }
 
 impl Pass {
-    ghost use Rattle.complex_core.specs.Spaces.{Space};
+    ghost use Rattle.complex_core.specs.Complexes.{ComplexView};
     ghost use Rattle.flip_rules.specs.Flips.{replay};
     ghost use Rattle.flip_rules.specs.Entries.{JournalEntry};
     ghost use Rattle.star_laws.specs.Stars.{LabelsPass};
@@ -67,7 +67,7 @@ impl Pass {
     ghost use Rattle.board_rule.specs.Items.{item, has_item};
     ghost use Rattle.board_rule.specs.Views.{keeps, Empty, opened_by, lost_by, with_item, with_journal, counted, without_item, without_journal, committed};
     ghost use Rattle.board_rule.specs.Plays.{IsRefused};
-    ghost use Rattle.board_rule.specs.declared.data.Home.{Home as HomeOf};
+    ghost use Rattle.board_rule.specs.declared.data.VersionedStar.{VersionedStar};
     ghost use Rattle.vertex_claims.specs.Passes.{IsOf, IsSame, know, slot, Puts, SameSlots, spare, limit, marks_left, places_on, entry_of};
 
     /// Its number, from 1.
@@ -108,7 +108,7 @@ impl Pass {
 
         // It then holds the place, with its star and version, and knows of a complex with all stars
         // that it holds.
-        ensures won { IfOk result (λ _. (x : HomeOf) × (k : Space) × (know self.new ≡ opened_by (know self.old) place x k) × Puts self.old self.new place (some (Slot.Home x))) }
+        ensures won { IfOk result (λ _. (x : VersionedStar) × (k : ComplexView) × (know self.new ≡ opened_by (know self.old) place x k) × Puts self.old self.new place (some (Slot.Home x))) }
 
         // Else the owner isn't this worker, and only the mark is new.
         ensures lost { IfErr result (λ c. (c.place ≡ place) × IsRefused (know self.old).worker c.owner × (know self.new ≡ lost_by (know self.old) place c.owner) × SameSlots self.old self.new) }
@@ -149,7 +149,7 @@ impl Pass {
 
         // It then holds the place, with its star and version, and knows of a complex with all stars
         // that it holds.
-        ensures star { 0 < place → IfOk result (λ _. (x : HomeOf) × (k : Space) × (know self.new ≡ with_item (know self.old) place x k) × Puts self.old self.new place (some (Slot.Home x)) × (spare self.new ≡ spare self.old)) }
+        ensures star { 0 < place → IfOk result (λ _. (x : VersionedStar) × (k : ComplexView) × (know self.new ≡ with_item (know self.old) place x k) × Puts self.old self.new place (some (Slot.Home x)) × (spare self.new ≡ spare self.old)) }
 
         // It then holds the journal, and isn't known to have room in it.
         ensures journal { place ≡ 0 → IfOk result (λ _. (b : Book) × (know self.new ≡ with_journal (know self.old) b.entries) × Puts self.old self.new 0 (some (Slot.Journal b)) × (spare self.new ≡ 0)) }
@@ -171,7 +171,7 @@ impl Pass {
         requires place { (0 < place) × (place ≤ places_on board.now) }
         requires free { keeps (know self.old) place ≡ false }
         ensures same { IsSame self.old self.new }
-        ensures won { IfOk result (λ _. (x : HomeOf) × (k : Space) × (know self.new ≡ with_item (know self.old) place x k) × Puts self.old self.new place (some (Slot.Home x))) }
+        ensures won { IfOk result (λ _. (x : VersionedStar) × (k : ComplexView) × (know self.new ≡ with_item (know self.old) place x k) × Puts self.old self.new place (some (Slot.Home x))) }
         ensures lost { IfErr result (λ c. (c.place ≡ place) × IsRefused (know self.old).worker c.owner × (know self.new ≡ counted (know self.old) place c.owner) × SameSlots self.old self.new) }
         ensures spare { spare self.new ≡ spare self.old }
     {
@@ -216,9 +216,9 @@ impl Pass {
 
     /// Takes the star of a place that it holds out of its slot, with its version: as they were claimed,
     /// or as they were put back last. It takes no memory.
-    pub fn take_star(&mut self, board: &Board, place: u16) -> Home
+    pub fn take_star(&mut self, board: &Board, place: u16) -> VersionedStar
         requires board { IsOf self.old board.now }
-        requires star { (x : HomeOf) × (slot self.old place ≡ some (Slot.Home x)) }
+        requires star { (x : VersionedStar) × (slot self.old place ≡ some (Slot.Home x)) }
         ensures same { IsSame self.old self.new }
         ensures known { (know self.new ≡ know self.old) × (spare self.new ≡ spare self.old) }
         ensures star { slot self.old place ≡ some (Slot.Home result) }
@@ -236,7 +236,7 @@ impl Pass {
     }
 
     /// Puts a star into the slot of a place from which one was taken out. It takes no memory.
-    pub fn put_star(&mut self, board: &Board, place: u16, home: Home)
+    pub fn put_star(&mut self, board: &Board, place: u16, home: VersionedStar)
         requires board { IsOf self.old board.now }
         requires out { slot self.old place ≡ some Slot.Out }
         ensures same { IsSame self.old self.new }
@@ -255,7 +255,7 @@ impl Pass {
     pub fn release(&mut self, board: &Board, place: u16)
         requires board { IsOf self.old board.now }
         requires place { 0 < place }
-        requires known { (x : HomeOf) × (slot self.old place ≡ some (Slot.Home x)) × (item (know self.old).items place ≡ some x) }
+        requires known { (x : VersionedStar) × (slot self.old place ≡ some (Slot.Home x)) × (item (know self.old).items place ≡ some x) }
         ensures same { IsSame self.old self.new }
         ensures known { (know self.new ≡ without_item (know self.old) place) × (spare self.new ≡ spare self.old) }
         ensures slots { Puts self.old self.new place none }
@@ -306,7 +306,7 @@ impl Pass {
 
         ensures same { IsSame self.old self.new }
         ensures seq { result ≡ length (know self.old).mine }
-        ensures known { (k : Space) × (know self.new ≡ committed (know self.old) (entry_of self.old board.now flips.now) k) }
+        ensures known { (k : ComplexView) × (know self.new ≡ committed (know self.old) (entry_of self.old board.now flips.now) k) }
         ensures slots { Puts self.old self.new 0 none }
         ensures spare { spare self.new ≡ 0 }
     {

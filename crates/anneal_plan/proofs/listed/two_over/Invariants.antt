@@ -1,5 +1,5 @@
 use Rattle.std.proofs.Common.{◌≡◌, ◌++◌, drop}
-use Rattle.complex_core.specs.Spaces.{over}
+use Rattle.complex_core.specs.Complexes.{over}
 use Rattle.anneal_plan.proofs.TwoRows.{as_list}
 use Rattle.anneal_plan.proofs.listed.two_over.Given as goal
 

@@ -1,6 +1,6 @@
 use Rattle.std.proofs.Common.{◌≡◌, ◌≤◌, List, ℕ, [], ◌∷◌, length, subst, sym, ◌∙◌, ap, arith, true}
 use Rattle.complex_core.specs.Labels.{with}
-use Rattle.complex_core.specs.Spaces.{is_face}
+use Rattle.complex_core.specs.Complexes.{is_face}
 use Rattle.complex_core.specs.Links.{link}
 use Rattle.cert_replay.proofs.VertexLists.{used_positive, used_face, none_where}
 use Rattle.cert_replay.proofs.judge.link_of.Goals as goal

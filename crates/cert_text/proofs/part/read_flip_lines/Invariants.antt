@@ -6,7 +6,7 @@ use Rattle.cert_text.proofs.part.read_flip_lines.Given as goal
 
 abbrev pub invariant-lines : goal.invariant-lines
 invariant-lines l = record {
-  within : l.place ≤ length l.bytes;
-  forth : l.from ≤ l.place;
-  same : so_many flip_line (l.count - l.counter) l.flips.items (items l.bytes l.place) ≡ so_many flip_line l.count [] (items l.bytes l.from);
+  within : l.offset ≤ length l.bytes;
+  forth : l.from ≤ l.offset;
+  same : so_many flip_line (l.count - l.counter) l.flips.items (items l.bytes l.offset) ≡ so_many flip_line l.count [] (items l.bytes l.from);
 }

@@ -1,6 +1,6 @@
 use Rattle.std.proofs.Common.{◌≡◌, ◌++◌, length, take, codes, map}
 use Rattle.std.specs.List.{flat_map}
-use Rattle.cert_text.specs.Claims.{of_vertex}
+use Rattle.cert_text.specs.Statements.{of_vertex}
 use Rattle.cert_text.specs.Writing.{number_line, vertex_text}
 use Rattle.cert_text.proofs.write.put_vertices.Given as goal
 

@@ -7,8 +7,8 @@ use Rattle.complex_core.proofs.complex.put_in.Goals as goal
 
 pub returns-in-Err-clause-items : goal.returns-in-Err-clause-items
 returns-in-Err-clause-items c =
-    let m : Missing face_cmp c.args.sets.now.items c.args.set.now c.in-Err.place = search_face c.deref.result.now c.args.sets.now.items c.args.set.now (Err c.in-Err.place) c.deref.ensures.value c.requires.rising c.in-Err.ensures.bound c.in-Err.ensures.position in
-    c.insert.ensures.items ∙ ap (λ r. cond (is_ok r) (insert c.args.sets.now.items c.in-Err.place c.args.set.now) c.args.sets.now.items) c.unwrap.ensures ∙ m.inserted
+    let m : Missing face_cmp c.args.sets.now.items c.args.set.now c.in-Err.position = search_face c.deref.result.now c.args.sets.now.items c.args.set.now (Err c.in-Err.position) c.deref.ensures.value c.requires.rising c.in-Err.ensures.bound c.in-Err.ensures.position in
+    c.insert.ensures.items ∙ ap (λ r. cond (is_ok r) (insert c.args.sets.now.items c.in-Err.position c.args.set.now) c.args.sets.now.items) c.unwrap.ensures ∙ m.inserted
 
 pub returns-in_default-clause-items : goal.returns-in_default-clause-items
 returns-in_default-clause-items c =

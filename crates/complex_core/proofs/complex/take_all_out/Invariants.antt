@@ -1,7 +1,7 @@
 use Rattle.std.proofs.Common.{◌≡◌, ◌≤◌, take, vec_len, vec_capacity}
 use Rattle.std.specs.List.Sorted.{IsStrictlySortedBy}
 use Rattle.complex_core.specs.Labels.{face_cmp}
-use Rattle.complex_core.specs.Spaces.{staying}
+use Rattle.complex_core.specs.Complexes.{staying}
 use Rattle.complex_core.proofs.complex.take_all_out.Given as goal
 
 abbrev pub invariant-loop-set : goal.invariant-loop-set

@@ -6,8 +6,8 @@ use Rattle.complex_core.proofs.complex.take_out.Goals as goal
 
 pub returns-in-Ok-clause-items : goal.returns-in-Ok-clause-items
 returns-in-Ok-clause-items c =
-    let s : Stands face_cmp c.args.sets.now.items c.args.set.now c.in-Ok.place = search_face c.deref.result.now c.args.sets.now.items c.args.set.now (Ok c.in-Ok.place) c.deref.ensures.value c.requires c.in-Ok.ensures.bound c.in-Ok.ensures.position in
-    c.remove.ensures.items ∙ taken_out c.args.sets.now.items c.args.set.now c.in-Ok.place s
+    let s : Stands face_cmp c.args.sets.now.items c.args.set.now c.in-Ok.position = search_face c.deref.result.now c.args.sets.now.items c.args.set.now (Ok c.in-Ok.position) c.deref.ensures.value c.requires c.in-Ok.ensures.bound c.in-Ok.ensures.position in
+    c.remove.ensures.items ∙ taken_out c.args.sets.now.items c.args.set.now c.in-Ok.position s
 
 pub returns-in_default-clause-items : goal.returns-in_default-clause-items
 returns-in_default-clause-items c =

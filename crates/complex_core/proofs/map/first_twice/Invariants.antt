@@ -4,9 +4,9 @@ use Rattle.std.specs.BTreeSet.{contains}
 use Rattle.complex_core.specs.Maps.{takes, reaches, Differ}
 use Rattle.complex_core.proofs.map.first_twice.Given as goal
 
-abbrev pub invariant-loop-place : goal.invariant-loop-place
-invariant-loop-place l = record {
-  firsts : (x : ℕ) → contains nat_cmp l.firsts x ≡ takes (take l.place l.pairs) x;
-  seconds : (y : ℕ) → contains nat_cmp l.seconds y ≡ reaches (take l.place l.pairs) y;
-  differ : Differ (take l.place l.pairs);
+abbrev pub invariant-loop-position : goal.invariant-loop-position
+invariant-loop-position l = record {
+  firsts : (x : ℕ) → contains nat_cmp l.firsts x ≡ takes (take l.position l.pairs) x;
+  seconds : (y : ℕ) → contains nat_cmp l.seconds y ≡ reaches (take l.position l.pairs) y;
+  differ : Differ (take l.position l.pairs);
 }

@@ -5,11 +5,11 @@ use Rattle.facet_text.proofs.read.read_facet.Given as goal
 
 abbrev pub invariant-labels : goal.invariant-labels
 invariant-labels l = record {
-  within : l.place ≤ length l.bytes;
-  forth : l.from ≤ l.place;
+  within : l.offset ≤ length l.bytes;
+  forth : l.from ≤ l.offset;
   pure : ArePure l.facets.items;
-  same : label_from (length l.bytes) l.start [] l.fn.facets.items (tokens l.bytes l.from) ≡ label_from (length l.bytes) l.start l.labels l.facets.items (tokens l.bytes l.place);
+  same : label_from (length l.bytes) l.start [] l.fn.facets.items (tokens l.bytes l.from) ≡ label_from (length l.bytes) l.start l.labels l.facets.items (tokens l.bytes l.offset);
 }
 
 abbrev pub decreases-labels : goal.decreases-labels
-decreases-labels l = length l.bytes - l.place
+decreases-labels l = length l.bytes - l.offset

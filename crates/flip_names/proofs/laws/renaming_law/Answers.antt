@@ -1,4 +1,4 @@
-use Rattle.flip_names.proofs.Flips.{why_commutes, flip_commutes, flip_stays_taken}
+use Rattle.flip_names.proofs.Flips.{broken_rule_commutes, flip_commutes, flip_stays_taken}
 use Rattle.flip_names.proofs.Faces.{sizes_are_kept}
 use Rattle.flip_names.proofs.Back.{renaming_is_undone}
 use Rattle.flip_names.proofs.Boundaries.{boundary_is_kept}
@@ -6,8 +6,8 @@ use Rattle.flip_names.proofs.Replays.{replay_commutes, replay_stays_taken, repla
 use Rattle.flip_names.proofs.FirstIllegals.{first_illegal_is_kept}
 use Rattle.flip_names.proofs.laws.renaming_law.Goals as goal
 
-pub returns-clause-why : goal.returns-clause-why
-returns-clause-why c = why_commutes
+pub returns-clause-broken_rule : goal.returns-clause-broken_rule
+returns-clause-broken_rule c = broken_rule_commutes
 
 pub returns-clause-flipped : goal.returns-clause-flipped
 returns-clause-flipped c = flip_commutes

@@ -8,4 +8,4 @@ pub returns-then-len-dim-2 : goal.returns-then-len-dim-2
 returns-then-len-dim-2 c = other_size _ _ _ _ _ _ c.dim-dim.ensures (some_label _ _ c.is_empty.ensures c.if-is_empty.false) c.near-near_a.ensures.over c.in-Some.ensures.labels c.len-2.ensures.len c.if-len-dim-2.true
 
 pub returns-in-Err : goal.returns-in-Err
-returns-in-Err c = let h = c.in-Err.is in refused _ _ _ _ _ _ _ _ _ c.dim.ensures (some_label _ _ c.is_empty.ensures c.if-is_empty.false) c.near-near_a.ensures.over c.near-near_b.ensures.over c.in-Some.ensures.labels c.less-other.ensures c.check_near.ensures.why c.in-Err.is
+returns-in-Err c = let h = c.in-Err.is in refused _ _ _ _ _ _ _ _ _ c.dim.ensures (some_label _ _ c.is_empty.ensures c.if-is_empty.false) c.near-near_a.ensures.over c.near-near_b.ensures.over c.in-Some.ensures.labels c.less-other.ensures c.check_near.ensures.broken_rule c.in-Err.is

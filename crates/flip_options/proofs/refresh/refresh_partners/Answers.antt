@@ -1,16 +1,16 @@
 use Rattle.std.proofs.Common.{◌+◌, sym, ◌∙◌, ap, refl, subst}
 use Rattle.complex_core.specs.Labels.{without}
-use Rattle.flip_options.specs.Tables.{Table, Refreshed}
+use Rattle.flip_options.specs.Candidates.{Candidates, Refreshed}
 use Rattle.flip_options.proofs.Looking.{left_next, left_skip, left_end, IsLeft}
 use Rattle.flip_options.proofs.refresh.refresh_partners.Goals as goal
 use Rattle.flip_options.proofs.refresh.refresh_partners.Goals.{then-holds+in_ok-refresh, else-holds}
 
 pub loop-facet-preserved : goal.loop-facet-preserved
 loop-facet-preserved c =
-    let P : Table → Type 0 = λ m. Refreshed c.args.stars.now c.args.table.now m (λ k a. IsLeft c.near-facet-items.result.now c.without-rest.result c.args.other.now (c.loop-facet.facet-index + 1) a) in
+    let P : Candidates → Type 0 = λ m. Refreshed c.args.stars.now c.args.candidates.now m (λ k a. IsLeft c.near-facet-items.result.now c.without-rest.result c.args.other.now (c.loop-facet.facet-index + 1) a) in
     elim c.if-holds.branch [
-      | then-holds+in_ok-refresh w ↦ subst P (sym w.table-is) (left_next _ _ _ _ _ _ _ _ _ _ c.loop-facet.invariant w.in_ok-refresh.ensures w.less.ensures c.loop-facet-test.true c.facet-item.is)
-      | else-holds w ↦ subst P (sym w.table-is) (left_skip _ _ _ _ _ _ _ _ c.loop-facet.invariant (sym c.holds.ensures ∙ w.if-holds.false) c.loop-facet-test.true c.facet-item.is)
+      | then-holds+in_ok-refresh w ↦ subst P (sym w.candidates-is) (left_next _ _ _ _ _ _ _ _ _ _ c.loop-facet.invariant w.in_ok-refresh.ensures w.less.ensures c.loop-facet-test.true c.facet-item.is)
+      | else-holds w ↦ subst P (sym w.candidates-is) (left_skip _ _ _ _ _ _ _ _ c.loop-facet.invariant (sym c.holds.ensures ∙ w.if-holds.false) c.loop-facet-test.true c.facet-item.is)
     ]
 
 pub returns : goal.returns

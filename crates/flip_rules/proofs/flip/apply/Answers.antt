@@ -1,6 +1,6 @@
 use Rattle.std.proofs.Common.{◌∙◌, refl, List, ℕ, subst, sym}
 use Rattle.std.specs.List.{AllByRecursion}
-use Rattle.complex_core.specs.Spaces.{IsFacet}
+use Rattle.complex_core.specs.Complexes.{IsFacet}
 use Rattle.flip_rules.proofs.Links.{flipped_by_sides}
 use Rattle.flip_rules.proofs.flip.apply.Goals as goal
 

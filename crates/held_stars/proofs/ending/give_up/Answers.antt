@@ -1,6 +1,6 @@
 use Rattle.std.proofs.Common.{◌∙◌, ap, refl}
 use Rattle.board_rule.specs.Items.{item}
-use Rattle.board_rule.specs.declared.view.Hand.{Hand}
+use Rattle.board_rule.specs.declared.view.PassView.{PassView}
 use Rattle.board_rule.proofs.Items.{some_of}
 use Rattle.vertex_claims.specs.Passes.{know}
 use Rattle.held_stars.proofs.GivenUp.{none_given, given_one, given_none, held_of, not_held}
@@ -13,7 +13,7 @@ pub release-requires-clause-known : goal.release-requires-clause-known
 release-requires-clause-known c =
     let v = know c.loop-place.pass in
     let x = some_of v.items c.in-Some.place (held_of v c.in-Some.place c.holds.result (c.loop-place.invariant.0.kept.free ∙ c.requires.free) c.holds.ensures c.if-holds.true) in
-    (x.0, c.count_entry.ensures.slot x.0 x.1, ap (λ (h : Hand). item h.items c.in-Some.place) c.count_entry.ensures.known ∙ x.1)
+    (x.0, c.count_entry.ensures.slot x.0 x.1, ap (λ (h : PassView). item h.items c.in-Some.place) c.count_entry.ensures.known ∙ x.1)
 
 pub loop-place-preserved-then-holds : goal.loop-place-preserved-then-holds
 loop-place-preserved-then-holds c =

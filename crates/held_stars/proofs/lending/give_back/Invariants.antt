@@ -3,7 +3,7 @@ use Rattle.held_stars.proofs.LentStars.{Returning}
 use Rattle.held_stars.proofs.lending.give_back.Given as goal
 
 abbrev pub invariant-loop-star : goal.invariant-loop-star
-invariant-loop-star l = Returning l.fn.pass l.pass l.fn.near.items l.near.items × (vec_capacity l.near ≡ vec_capacity l.fn.near)
+invariant-loop-star l = Returning l.fn.pass l.pass l.fn.lent.items l.lent.items × (vec_capacity l.lent ≡ vec_capacity l.fn.lent)
 
 abbrev pub decreases-loop-star : goal.decreases-loop-star
 decreases-loop-star l = goal.left-loop-star l

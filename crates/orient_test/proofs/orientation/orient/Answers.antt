@@ -1,7 +1,7 @@
 use Rattle.std.proofs.Common.{◌≡◌, ◌∙◌, ℕ, List, length, get_or, map, arith, sym, ap, subst, false, Some}
 use Rattle.std.specs.BTreeMap.{get}
 use Rattle.complex_core.specs.Labels.{face_cmp}
-use Rattle.complex_core.specs.Spaces.{is_facet}
+use Rattle.complex_core.specs.Complexes.{is_facet}
 use Rattle.pseudo_test.proofs.Spreading.{listed_at}
 use Rattle.orient_test.specs.declared.search.Spread.{Spread}
 use Rattle.orient_test.specs.Signs.{value, chosen}

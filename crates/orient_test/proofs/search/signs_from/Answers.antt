@@ -16,8 +16,8 @@ returns c = (c.loop-next.invariant.begins, spread_end c.args.complex.now.facets 
 
 pub closed_chain-requires-clause-earlier : goal.closed_chain-requires-clause-earlier
 closed_chain-requires-clause-earlier c =
-    let met = met_some (IsCrossed c.args.complex.now.facets c.loop-label.reached.items c.cross.new.reached.items c.loop-next.next (get_or c.as_slice-label-items.result.now c.loop-label.label-index 0)) (λ place. (place < length c.loop-label.reached.items) × (c.cross.new.reached.items ≡ c.loop-label.reached.items) × Contradicts c.args.complex.now.facets c.loop-label.reached.items c.loop-next.next place) c.in_ok-place.field-0 c.in-Some.place c.in_ok-place.ensures.crossed c.in-Some.is in
+    let met = met_some (IsCrossed c.args.complex.now.facets c.loop-label.reached.items c.cross.new.reached.items c.loop-next.next (get_or c.as_slice-label-items.result.now c.loop-label.label-index 0)) (λ position. (position < length c.loop-label.reached.items) × (c.cross.new.reached.items ≡ c.loop-label.reached.items) × Contradicts c.args.complex.now.facets c.loop-label.reached.items c.loop-next.next position) c.in_ok-position.field-0 c.in-Some.position c.in_ok-position.ensures.crossed c.in-Some.is in
     still_earlier c.args.complex.now.facets c.loop-label.reached.items c.cross.new.reached.items c.deref.result.now c.loop-label.invariant.growing.tree met.1 c.deref.ensures.value
 
 pub loop-label-preserved : goal.loop-label-preserved
-loop-label-preserved c = inner_next c.args.complex.now.facets c.args.start c.loop-label.reached.items c.cross.new.reached.items (get face_cmp c.loop-label.places) (get face_cmp c.cross.new.places) c.loop-next.next c.as_slice-label-items.result.now c.loop-label.label-index c.loop-label.invariant (met_none (IsCrossed c.args.complex.now.facets c.loop-label.reached.items c.cross.new.reached.items c.loop-next.next (get_or c.as_slice-label-items.result.now c.loop-label.label-index 0)) (λ place. (place < length c.loop-label.reached.items) × (c.cross.new.reached.items ≡ c.loop-label.reached.items) × Contradicts c.args.complex.now.facets c.loop-label.reached.items c.loop-next.next place) c.in_ok-place.field-0 c.in_ok-place.ensures.crossed c.in-None.is) c.in_ok-place.ensures.placed
+loop-label-preserved c = inner_next c.args.complex.now.facets c.args.start c.loop-label.reached.items c.cross.new.reached.items (get face_cmp c.loop-label.places) (get face_cmp c.cross.new.places) c.loop-next.next c.as_slice-label-items.result.now c.loop-label.label-index c.loop-label.invariant (met_none (IsCrossed c.args.complex.now.facets c.loop-label.reached.items c.cross.new.reached.items c.loop-next.next (get_or c.as_slice-label-items.result.now c.loop-label.label-index 0)) (λ position. (position < length c.loop-label.reached.items) × (c.cross.new.reached.items ≡ c.loop-label.reached.items) × Contradicts c.args.complex.now.facets c.loop-label.reached.items c.loop-next.next position) c.in_ok-position.field-0 c.in_ok-position.ensures.crossed c.in-None.is) c.in_ok-position.ensures.placed

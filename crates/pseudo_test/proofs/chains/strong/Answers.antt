@@ -20,12 +20,12 @@ loop-label-init c = within_start c.args.complex.now c.index-facets-0.result c.in
 pub spread-requires-clause-faces : goal.spread-requires-clause-faces
 spread-requires-clause-faces c =
     let x : ℕ = get_or c.as_slice-label-items.result.now c.loop-label.label-index 0 in
-    (within_faces c.args.complex.now c.index-facets-0.result c.loop-label.reached.items c.loop-label.rest.keys (contains face_cmp c.loop-label.seen) c.loop-next.next c.index.result.now c.as_slice-label-items.result.now c.without-ridge.result c.loop-label.label-index x c.in_ok-sides.sides.items c.deref.result.now c.facets-facets.ensures.complex c.loop-label.invariant c.loop-label-test.true (get_or_default c.as_slice-label-items.result.now c.loop-label.label-index 0 x c.loop-label-test.true) (c.as_slice-label-items.ensures ∙ c.labels.ensures.labels) c.without-ridge.ensures c.in_ok-sides.ensures.sides c.deref.ensures.value).1
+    (within_faces c.args.complex.now c.index-facets-0.result c.loop-label.reached.items c.loop-label.rest.keys (contains face_cmp c.loop-label.seen) c.loop-next.next c.index.result.now c.as_slice-label-items.result.now c.without-ridge.result c.loop-label.label-index x c.in_ok-incidences.incidences.items c.deref.result.now c.facets-facets.ensures.complex c.loop-label.invariant c.loop-label-test.true (get_or_default c.as_slice-label-items.result.now c.loop-label.label-index 0 x c.loop-label-test.true) (c.as_slice-label-items.ensures ∙ c.labels.ensures.labels) c.without-ridge.ensures c.in_ok-incidences.ensures.incidences c.deref.ensures.value).1
 
 pub loop-label-preserved : goal.loop-label-preserved
 loop-label-preserved c =
     let x : ℕ = get_or c.as_slice-label-items.result.now c.loop-label.label-index 0 in
-    within_next c.args.complex.now c.index-facets-0.result c.loop-label.reached.items c.loop-label.rest.keys c.spread.new.reached.items c.spread.new.rest.keys (contains face_cmp c.loop-label.seen) (contains face_cmp c.spread.new.seen) c.loop-next.next c.index.result.now c.as_slice-label-items.result.now c.without-ridge.result c.loop-label.label-index x c.in_ok-sides.sides.items c.deref.result.now c.facets-facets.ensures.complex c.loop-label.invariant c.loop-label-test.true (get_or_default c.as_slice-label-items.result.now c.loop-label.label-index 0 x c.loop-label-test.true) (c.as_slice-label-items.ensures ∙ c.labels.ensures.labels) c.without-ridge.ensures c.in_ok-sides.ensures.sides c.deref.ensures.value c.in_ok-spread.ensures.moved c.in_ok-spread.ensures.seen
+    within_next c.args.complex.now c.index-facets-0.result c.loop-label.reached.items c.loop-label.rest.keys c.spread.new.reached.items c.spread.new.rest.keys (contains face_cmp c.loop-label.seen) (contains face_cmp c.spread.new.seen) c.loop-next.next c.index.result.now c.as_slice-label-items.result.now c.without-ridge.result c.loop-label.label-index x c.in_ok-incidences.incidences.items c.deref.result.now c.facets-facets.ensures.complex c.loop-label.invariant c.loop-label-test.true (get_or_default c.as_slice-label-items.result.now c.loop-label.label-index 0 x c.loop-label-test.true) (c.as_slice-label-items.ensures ∙ c.labels.ensures.labels) c.without-ridge.ensures c.in_ok-incidences.ensures.incidences c.deref.ensures.value c.in_ok-spread.ensures.moved c.in_ok-spread.ensures.seen
 
 pub loop-next-preserved : goal.loop-next-preserved
 loop-next-preserved c = record {

@@ -21,14 +21,14 @@ returns-in-Err-clause-ends g c = λ task s told of turned.
     let fits : SFits w32 c.in-Err.sum = search rules in
     subst (λ (sum : ℤ). Ended task s c.args.pass.now c.args.hold.now (Declined sum)) (sym (to_z-of_z w32 c.in-Err.sum fits))
     (declined task s c.args.pass.now c.args.hold.now c.in-Err.sum (some_flips flips.items flips.len c.is_empty.result flips.ok.0 c.is_empty.ensures c.if-is_empty.false) of turned
-    (above task c.args.order.now c.args.dim c.deref.result.now flips.items c.in-Err.sum told c.deref.ensures.value c.in-Err.ensures.above))
+    (above task c.args.try_plan.now c.args.dim c.deref.result.now flips.items c.in-Err.sum told c.deref.ensures.value c.in-Err.ensures.above))
 
 pub returns-in-Err-fetch-clause-ends : goal.returns-in-Err-fetch-clause-ends
 returns-in-Err-fetch-clause-ends g c = λ task s told of turned.
     let flips = c.args.hold.now.flips in
     let lost = c.in-Err-fetch.ensures.lost in
     refused task s c.args.pass.now c.fetch.new.pass c.args.hold.now lost.0 c.in-Err-fetch.owner (some_flips flips.items flips.len c.is_empty.result flips.ok.0 c.is_empty.ensures c.if-is_empty.false) of turned
-    (permitted task c.args.order.now c.args.dim c.deref.result.now flips.items told c.deref.ensures.value c.in_default.ensures.allowed)
+    (permitted task c.args.try_plan.now c.args.dim c.deref.result.now flips.items told c.deref.ensures.value c.in_default.ensures.allowed)
     lost.1 lost.2 lost.3 lost.4
 
 pub returns-in-Err-ask-clause-ends : goal.returns-in-Err-ask-clause-ends
@@ -71,7 +71,7 @@ returns-clause-commits g c = λ task s told of turned.
     let room = c.journal_room.ensures in
     let made = c.commit.ensures in
     entered task s c.args.pass.now c.journal_room.new.self c.commit.new.self c.args.hold.now won.0 won.1.entries c.deref-2.result.now (round_of c.args.board.now) c.commit.result made.known.0 (some_flips flips.items flips.len c.is_empty.result flips.ok.0 c.is_empty.ensures c.if-is_empty.false) of turned
-    (permitted task c.args.order.now c.args.dim c.deref.result.now flips.items told c.deref.ensures.value c.in_default.ensures.allowed)
+    (permitted task c.args.try_plan.now c.args.dim c.deref.result.now flips.items told c.deref.ensures.value c.in_default.ensures.allowed)
     won.2 (room.known ∙ won.3) (λ q ne. room.slots q ne ∙ won.4 q ne) c.deref-2.ensures.value made.seq made.known.1 made.slots
 
 pub returns-in-Err-fetch-clause-kept : goal.returns-in-Err-fetch-clause-kept

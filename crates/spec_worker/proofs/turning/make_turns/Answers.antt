@@ -7,55 +7,55 @@ use Rattle.spec_worker.proofs.Series.{here, free_positive, none_made, stopped, a
 use Rattle.spec_worker.proofs.turning.make_turns.Goals as goal
 
 pub loop-turn-init : goal.loop-turn-init
-loop-turn-init g c = (none_made c.args.order.now c.args.dim (places_on c.args.board.now) c.args.pass.now c.args.hold.now c.requires.room.0 c.requires.room.1, omega arith, follows_self _ _ (keeps_self _ _ _ _ _ refl refl refl))
+loop-turn-init g c = (none_made c.args.try_plan.now c.args.dim (places_on c.args.board.now) c.args.pass.now c.args.hold.now c.requires.room.0 c.requires.room.1, omega arith, follows_self _ _ (keeps_self _ _ _ _ _ refl refl refl))
 
 pub propose-requires-clause-star : goal.propose-requires-clause-star
 propose-requires-clause-star g c =
     let r = c.requires.turned in
     let t = c.loop-turn.invariant.0.turned r.0 r.1 r.2 r.3 r.4 in
-    let x = here c.args.order.now c.args.dim r.0 r.1 c.loop-turn.pass c.loop-turn.hold (rest_of r.0 r.1 c.loop-turn.hold) r.2 r.3 t in
+    let x = here c.args.try_plan.now c.args.dim r.0 r.1 c.loop-turn.pass c.loop-turn.hold (rest_of r.0 r.1 c.loop-turn.hold) r.2 r.3 t in
     (x.home, x.slot_is, (let e : 1 ≤ x.home.star.dim = omega (arith, x.dim_is, c.requires.dim.0) in e))
 
 pub propose-requires-clause-free : goal.propose-requires-clause-free
-propose-requires-clause-free g c = free_positive (places_on c.args.board.now) c.args.order.now.free.now c.requires.order.free
+propose-requires-clause-free g c = free_positive (places_on c.args.board.now) c.args.try_plan.now.free.now c.requires.try_plan.free
 
 pub returns-in_default-clause-same : goal.returns-in_default-clause-same
 returns-in_default-clause-same g c = same_passes c.args.pass.now c.loop-turn.pass c.propose.new.pass c.loop-turn.invariant.0.same c.propose.ensures.same
 
 pub returns-in_default-clause-turned : goal.returns-in_default-clause-turned
 returns-in_default-clause-turned g c =
-    stopped c.args.order.now c.args.dim (places_on c.args.board.now) c.loop-turn.turn c.args.pass.now c.args.hold.now c.loop-turn.pass c.propose.new.pass c.loop-turn.hold c.propose.result c.loop-turn.invariant.0 c.propose.ensures.known.0 c.propose.ensures.known.2 c.in_default.is c.propose.ensures.proposal
+    stopped c.args.try_plan.now c.args.dim (places_on c.args.board.now) c.loop-turn.turn c.args.pass.now c.args.hold.now c.loop-turn.pass c.propose.new.pass c.loop-turn.hold c.propose.result c.loop-turn.invariant.0 c.propose.ensures.known.0 c.propose.ensures.known.2 c.in_default.is c.propose.ensures.proposal
 
 pub take_turn-requires-clause-places : goal.take_turn-requires-clause-places
 take_turn-requires-clause-places g c =
     let r = c.requires.turned in
-    next_within c.args.order.now c.args.dim (places_on c.args.board.now) c.loop-turn.turn c.args.pass.now c.args.hold.now c.loop-turn.pass c.propose.new.pass c.loop-turn.hold c.in-Some.flip r.0 r.1 c.loop-turn.invariant.0 c.requires.order c.requires.board.1 c.propose.ensures.known.0 c.in-Some.ensures.fits r.2 r.3 r.4
+    next_within c.args.try_plan.now c.args.dim (places_on c.args.board.now) c.loop-turn.turn c.args.pass.now c.args.hold.now c.loop-turn.pass c.propose.new.pass c.loop-turn.hold c.in-Some.flip r.0 r.1 c.loop-turn.invariant.0 c.requires.try_plan c.requires.board.1 c.propose.ensures.known.0 c.in-Some.ensures.fits r.2 r.3 r.4
 
 pub take_turn-requires-clause-next : goal.take_turn-requires-clause-next
 take_turn-requires-clause-next g c =
     let r = c.requires.turned in (
       r.1,
       rest_then r.0 r.1 c.loop-turn.hold c.in-Some.flip,
-      is_next c.args.order.now c.args.dim (places_on c.args.board.now) c.loop-turn.turn c.args.pass.now c.args.hold.now c.loop-turn.pass c.propose.new.pass c.loop-turn.hold c.propose.result c.in-Some.flip c.loop-turn.invariant.0 c.loop-turn-test.true c.propose.ensures.known.0 c.propose.ensures.known.2 c.in-Some.is c.propose.ensures.proposal c.in-Some.ensures.fits r.0 r.1 r.2 r.3 r.4,
+      is_next c.args.try_plan.now c.args.dim (places_on c.args.board.now) c.loop-turn.turn c.args.pass.now c.args.hold.now c.loop-turn.pass c.propose.new.pass c.loop-turn.hold c.propose.result c.in-Some.flip c.loop-turn.invariant.0 c.loop-turn-test.true c.propose.ensures.known.0 c.propose.ensures.known.2 c.in-Some.is c.propose.ensures.proposal c.in-Some.ensures.fits r.0 r.1 r.2 r.3 r.4,
     )
 
 pub returns-in-Err-clause-same : goal.returns-in-Err-clause-same
 returns-in-Err-clause-same g c = same_passes c.args.pass.now c.propose.new.pass c.take_turn.new.pass (same_passes c.args.pass.now c.loop-turn.pass c.propose.new.pass c.loop-turn.invariant.0.same c.propose.ensures.same) c.take_turn.ensures.same
 
 pub returns-in-Err-clause-ends : goal.returns-in-Err-clause-ends
-returns-in-Err-clause-ends g c = λ task s told story was.
+returns-in-Err-clause-ends g c = λ task s told begun was.
     c.in-Err.ensures.ends task s (rest_then task s c.loop-turn.hold c.in-Some.flip) told.dim_is
-    (is_next c.args.order.now c.args.dim (places_on c.args.board.now) c.loop-turn.turn c.args.pass.now c.args.hold.now c.loop-turn.pass c.propose.new.pass c.loop-turn.hold c.propose.result c.in-Some.flip c.loop-turn.invariant.0 c.loop-turn-test.true c.propose.ensures.known.0 c.propose.ensures.known.2 c.in-Some.is c.propose.ensures.proposal c.in-Some.ensures.fits task s told story was)
+    (is_next c.args.try_plan.now c.args.dim (places_on c.args.board.now) c.loop-turn.turn c.args.pass.now c.args.hold.now c.loop-turn.pass c.propose.new.pass c.loop-turn.hold c.propose.result c.in-Some.flip c.loop-turn.invariant.0 c.loop-turn-test.true c.propose.ensures.known.0 c.propose.ensures.known.2 c.in-Some.is c.propose.ensures.proposal c.in-Some.ensures.fits task s told begun was)
 
 pub loop-turn-preserved : goal.loop-turn-preserved
 loop-turn-preserved g c =
-    let o = c.args.order.now in
+    let o = c.args.try_plan.now in
     let n = places_on c.args.board.now in
     let e = c.in_default-take_turn.ensures in
     let i = c.loop-turn.invariant in
     let r = c.requires.turned in
     let later = i.1 in
-    let within = next_within o c.args.dim n c.loop-turn.turn c.args.pass.now c.args.hold.now c.loop-turn.pass c.propose.new.pass c.loop-turn.hold c.in-Some.flip r.0 r.1 i.0 c.requires.order c.requires.board.1 c.propose.ensures.known.0 c.in-Some.ensures.fits r.2 r.3 r.4 in
+    let within = next_within o c.args.dim n c.loop-turn.turn c.args.pass.now c.args.hold.now c.loop-turn.pass c.propose.new.pass c.loop-turn.hold c.in-Some.flip r.0 r.1 i.0 c.requires.try_plan c.requires.board.1 c.propose.ensures.known.0 c.in-Some.ensures.fits r.2 r.3 r.4 in
     let next = is_next o c.args.dim n c.loop-turn.turn c.args.pass.now c.args.hold.now c.loop-turn.pass c.propose.new.pass c.loop-turn.hold c.propose.result c.in-Some.flip i.0 c.loop-turn-test.true c.propose.ensures.known.0 c.propose.ensures.known.2 c.in-Some.is c.propose.ensures.proposal c.in-Some.ensures.fits in (
       one_more o c.args.dim n c.loop-turn.turn c.args.pass.now c.args.hold.now c.loop-turn.pass c.propose.new.pass c.take_turn.new.pass c.loop-turn.hold c.take_turn.new.hold c.in-Some.flip i.0 c.propose.ensures.same c.propose.ensures.known.0 e.same e.kept e.room e.flips within next e.turned,
       omega (arith, later, e.later),
@@ -63,7 +63,7 @@ loop-turn-preserved g c =
     )
 
 pub returns-clause-turned : goal.returns-clause-turned
-returns-clause-turned g c = all_made c.args.order.now c.args.dim (places_on c.args.board.now) c.loop-turn.turn c.args.pass.now c.args.hold.now c.loop-turn.pass c.loop-turn.hold c.loop-turn.invariant.0 (omega arith)
+returns-clause-turned g c = all_made c.args.try_plan.now c.args.dim (places_on c.args.board.now) c.loop-turn.turn c.args.pass.now c.args.hold.now c.loop-turn.pass c.loop-turn.hold c.loop-turn.invariant.0 (omega arith)
 
 pub returns-in_default-clause-heard : goal.returns-in_default-clause-heard
 returns-in_default-clause-heard g c = follows_then _ _ _ _ c.loop-turn.invariant.2 (keeps_then _ _ _ _ _ _ (same_noted _ _ c.propose.ensures.known.0))

@@ -71,7 +71,7 @@ returns-in-Err-Illegal-clause-ends g c = λ task s next is n.
     let e = c.in-Ok.ensures in
     let m = c.in-Err-Illegal.ensures in
     let t = claimed s c.args.dim c.args.pass.now c.claim_labels.new.pass c.args.hold.now c.claim_labels.new.hold c.args.flip.now next c.deref.result.now n (c.deref.ensures ∙ c.labels.ensures.labels ∙ c.in-Some.ensures.1) c.in-Some.ensures.0 e.hold.0 e.hold.3 e.held (e.going s) in
-    ended_blocked task s c.args.flip.now next c.claim_labels.new.pass c.make_flip.new.pass c.claim_labels.new.hold c.make_flip.new.hold _ _ t (n.dim_is ∙ sym is) m.known.0 c.in-Err-Illegal.field-0-is (m.why t.now t.made) (m.restorable t.now t.made)
+    ended_blocked task s c.args.flip.now next c.claim_labels.new.pass c.make_flip.new.pass c.claim_labels.new.hold c.make_flip.new.hold _ _ t (n.dim_is ∙ sym is) m.known.0 c.in-Err-Illegal.field-0-is (m.broken_rule t.now t.made) (m.restorable t.now t.made)
 
 pub returns-in-Err-Memory-clause-ends : goal.returns-in-Err-Memory-clause-ends
 returns-in-Err-Memory-clause-ends g c = λ task s next is n.

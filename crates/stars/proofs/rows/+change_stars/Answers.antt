@@ -2,7 +2,7 @@ use Rattle.std.proofs.Common.{◌≡◌, ◌∷◌, ◌++◌, ℕ, ◌<◌, List
 use Rattle.std.proofs.lemmas.List.{length-set}
 use Rattle.complex_core.specs.Labels.{face_cmp}
 use Rattle.complex_core.specs.Rising.{rising}
-use Rattle.complex_core.specs.Spaces.{staying}
+use Rattle.complex_core.specs.Complexes.{staying}
 use Rattle.star_laws.specs.Stars.{star}
 use Rattle.stars.specs.StarViews.{VertexStar}
 use Rattle.stars.specs.Changes.{stars_changed}

@@ -17,8 +17,8 @@ events-preserved c =
     let e = c.in_ok-push.ensures.items in
     let n = ap length e in
     record {
-      within = omega (arith, c.in_ok-event.ensures.place);
-      few = omega (arith, n, c.in-Some.ensures.place, c.in_ok-event.ensures.place, c.events.invariant.few);
+      within = omega (arith, c.in_ok-event.ensures.offset);
+      few = omega (arith, n, c.in-Some.ensures.offset, c.in_ok-event.ensures.offset, c.events.invariant.few);
       same = c.events.invariant.same ∙ one_line c.args.places.now c.events.events.items _ _ _ _ _ c.in_ok-event.event c.in-Some.ensures.first c.in_ok-event.ensures.read ∙ ap (λ (es : List Event). events_from c.args.places.now es (items c.args.bytes.now c.in_ok-event.end)) (sym e);
     }
 

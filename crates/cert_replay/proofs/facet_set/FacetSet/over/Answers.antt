@@ -1,7 +1,7 @@
 use Rattle.std.proofs.Common.{◌≡◌, List, ℕ, subst, sym, true, ap, length, ◌-◌, option_copied, ◌∙◌}
 use Rattle.std.specs.List.Sorted.{IsStrictlySortedBy}
 use Rattle.complex_core.specs.Labels.{has, face_cmp}
-use Rattle.complex_core.specs.Spaces.{over}
+use Rattle.complex_core.specs.Complexes.{over}
 use Rattle.complex_core.proofs.Sets.{sorted_none}
 use Rattle.cert_replay.specs.Rows.{facets_at}
 use Rattle.cert_replay.proofs.RowSets.{over_told, over_rises, facets_at_rise, if_ok_along, if_ok_rises, last_has}

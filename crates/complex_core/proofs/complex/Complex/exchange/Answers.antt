@@ -2,7 +2,7 @@ use Rattle.std.proofs.Common.{◌≡◌, ◌++◌, ◌∙◌, ap, List, ℕ, sub
 use Rattle.std.specs.List.{AllByRecursion}
 use Rattle.complex_core.specs.Labels.{face_cmp}
 use Rattle.complex_core.specs.Rising.{rising}
-use Rattle.complex_core.specs.Spaces.{IsComplex, IsFacet, staying, is_facet}
+use Rattle.complex_core.specs.Complexes.{IsComplex, IsFacet, staying, is_facet}
 use Rattle.complex_core.proofs.Sorting.{exchanged}
 use Rattle.complex_core.proofs.complex.Complex.exchange.Goals as goal
 

@@ -1,5 +1,5 @@
 use Rattle.std.proofs.Common.{◌∙◌, ap}
-use Rattle.complex_core.specs.Spaces.{is_facet}
+use Rattle.complex_core.specs.Complexes.{is_facet}
 use Rattle.complex_core.proofs.Exchanges.{facet_searched}
 use Rattle.complex_core.proofs.complex.Complex.is_facet.Goals as goal
 

@@ -9,18 +9,18 @@ front-requires-clause-room c = omega (arith, c.requires.inside, c.self.invariant
 
 pub overflow_add-result : goal.overflow_add-result
 overflow_add-result c =
-    let p : Packs (c.front.result + c.behind.result * 65536 % 2 ^ 128) (remove c.args.self.now c.args.place) =
-    remove_packed c.self.inside.bits c.front.result c.behind.result c.args.place c.args.self.now c.self.invariant c.self.view_is c.front.ensures c.behind.ensures c.requires.inside c.requires.face in
+    let p : Packs (c.front.result + c.behind.result * 65536 % 2 ^ 128) (remove c.args.self.now c.args.position) =
+    remove_packed c.self.inside.bits c.front.result c.behind.result c.args.position c.args.self.now c.self.invariant c.self.view_is c.front.ensures c.behind.ensures c.requires.inside c.requires.face in
     omega (arith, p.small)
 
 pub invariant_of-result : goal.invariant_of-result
 invariant_of-result c =
-    let p : Packs (c.front.result + c.behind.result * 65536 % 2 ^ 128) (remove c.args.self.now c.args.place) =
-    remove_packed c.self.inside.bits c.front.result c.behind.result c.args.place c.args.self.now c.self.invariant c.self.view_is c.front.ensures c.behind.ensures c.requires.inside c.requires.face in
+    let p : Packs (c.front.result + c.behind.result * 65536 % 2 ^ 128) (remove c.args.self.now c.args.position) =
+    remove_packed c.self.inside.bits c.front.result c.behind.result c.args.position c.args.self.now c.self.invariant c.self.view_is c.front.ensures c.behind.ensures c.requires.inside c.requires.face in
     p.packed
 
 pub returns : goal.returns
 returns c =
-    let p : Packs (c.front.result + c.behind.result * 65536 % 2 ^ 128) (remove c.args.self.now c.args.place) =
-    remove_packed c.self.inside.bits c.front.result c.behind.result c.args.place c.args.self.now c.self.invariant c.self.view_is c.front.ensures c.behind.ensures c.requires.inside c.requires.face in
+    let p : Packs (c.front.result + c.behind.result * 65536 % 2 ^ 128) (remove c.args.self.now c.args.position) =
+    remove_packed c.self.inside.bits c.front.result c.behind.result c.args.position c.args.self.now c.self.invariant c.self.view_is c.front.ensures c.behind.ensures c.requires.inside c.requires.face in
     p.is

@@ -7,7 +7,7 @@ use Rattle.complex_core.proofs.map.VertexMap.get.Goals as goal
 pub returns-in-Ok-clause-get : goal.returns-in-Ok-clause-get
 returns-in-Ok-clause-get c =
     let P : List (ℕ × ℕ) → Type 0 = λ ps. (takes ps c.args.label ≡ true) × (c.index.result.now.1 ≡ at ps c.args.label) in
-    subst P c.self.view_is (one_searched c.deref.result.now c.self.inside.pairs.items c.args.label c.in-Ok.place c.index.result.now c.deref.ensures.value c.self.invariant.differ c.in-Ok.ensures.bound (c.in-Ok.ensures.position (λ p. p.0) (answers_always _ _ _ (λ f a r g called. search rules))) c.index.ensures)
+    subst P c.self.view_is (one_searched c.deref.result.now c.self.inside.pairs.items c.args.label c.in-Ok.position c.index.result.now c.deref.ensures.value c.self.invariant.differ c.in-Ok.ensures.bound (c.in-Ok.ensures.position (λ p. p.0) (answers_always _ _ _ (λ f a r g called. search rules))) c.index.ensures)
 
 pub returns-in-Err-clause-get : goal.returns-in-Err-clause-get
 returns-in-Err-clause-get c = λ t.

@@ -1,5 +1,5 @@
 use Rattle.std.proofs.Common.{◌≡◌, ◌≤◌, ◌∷◌, [], take, length}
-use Rattle.complex_core.specs.Spaces.{over}
+use Rattle.complex_core.specs.Complexes.{over}
 use Rattle.flip_rules.proofs.sides.Sides.holding.Given as goal
 
 abbrev pub invariant-loop-set : goal.invariant-loop-set

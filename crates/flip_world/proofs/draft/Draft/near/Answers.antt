@@ -1,7 +1,7 @@
 use Rattle.std.proofs.Common.{◌++◌, ◌∙◌, ap}
 use Rattle.complex_core.specs.Labels.{face_cmp}
 use Rattle.complex_core.specs.Rising.{rising}
-use Rattle.complex_core.specs.Spaces.{over, staying}
+use Rattle.complex_core.specs.Complexes.{over, staying}
 use Rattle.flip_world.proofs.Drafts.{Near, made_near, draft_of}
 use Rattle.flip_world.proofs.draft.Draft.near.Goals as goal
 

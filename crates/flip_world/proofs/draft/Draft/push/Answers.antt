@@ -1,7 +1,7 @@
 use Rattle.std.proofs.Common.{◌++◌, ◌∙◌}
 use Rattle.complex_core.specs.Labels.{face_cmp}
 use Rattle.complex_core.specs.Rising.{rising}
-use Rattle.complex_core.specs.Spaces.{staying}
+use Rattle.complex_core.specs.Complexes.{staying}
 use Rattle.flip_world.proofs.Drafts.{made_push}
 use Rattle.flip_world.proofs.draft.Draft.push.Goals as goal
 

@@ -13,7 +13,7 @@ local_check-requires-clause-held c =
     let items : c.deref.result.now ≡ all_stars c.args.self.now = c.deref.ensures.value ∙ items_are c.args.self.now c.self.inside.dim c.self.inside.stars.items c.self.view_is c.self.invariant.1 in
     shown_labels c.args.self.now c.args.flip.now c.deref.result.now items c.len-first.ensures.face c.len-second.ensures.face c.requires.places
 
-pub returns-clause-why : goal.returns-clause-why
-returns-clause-why c = λ k h.
+pub returns-clause-broken_rule : goal.returns-clause-broken_rule
+returns-clause-broken_rule c = λ k h.
     let items : c.deref.result.now ≡ all_stars c.args.self.now = c.deref.ensures.value ∙ items_are c.args.self.now c.self.inside.dim c.self.inside.stars.items c.self.view_is c.self.invariant.1 in
-    c.local_check.ensures.why k (shown_stars k c.args.self.now c.deref.result.now items h)
+    c.local_check.ensures.broken_rule k (shown_stars k c.args.self.now c.deref.result.now items h)

@@ -39,10 +39,10 @@ returns-clause-stars c = λ k h.
     let R : List VertexStar → Type 0 = λ ss. OnOk c.flip_here.result (c.flip_here.new.near ≡ stars_flipped ss c.args.flip.now.a c.args.flip.now.b) in
     subst Q (sym filled) (flipped_map k c.args.self.now c.args.flip.now c.self.inside.dim old c.flip_here.new.near c.flip_here.result c.self.view_is c.self.invariant.1 (subst R shown c.flip_here.ensures.ok) (c.flip_here.ensures.stars k (shown_stars k c.args.self.now c.deref_mut.result.now items h)) h c.requires.places)
 
-pub returns-clause-why : goal.returns-clause-why
-returns-clause-why c = λ k h.
+pub returns-clause-broken_rule : goal.returns-clause-broken_rule
+returns-clause-broken_rule c = λ k h.
     let items : c.deref_mut.result.now ≡ all_stars c.args.self.now = c.deref_mut.ensures.value ∙ items_are c.args.self.now c.self.inside.dim c.self.inside.stars.items c.self.view_is c.self.invariant.1 in
-    c.flip_here.ensures.why k (shown_stars k c.args.self.now c.deref_mut.result.now items h)
+    c.flip_here.ensures.broken_rule k (shown_stars k c.args.self.now c.deref_mut.result.now items h)
 
 pub returns-clause-told : goal.returns-clause-told
 returns-clause-told c = λ k e h.

@@ -1,5 +1,5 @@
 use Rattle.std.proofs.Common.{◌≡◌, length}
-use Rattle.complex_core.specs.Spaces.{over}
+use Rattle.complex_core.specs.Complexes.{over}
 use Rattle.stars.proofs.over.OverIterator.next.Given as goal
 
 -- only rows that don't contain the face were passed over

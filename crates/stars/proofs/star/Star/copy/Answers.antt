@@ -1,5 +1,5 @@
 use Rattle.std.proofs.Common.{◌∙◌, sym, subst}
-use Rattle.stars.specs.Lists.{AreLists}
+use Rattle.stars.specs.CandidateLists.{AreLists}
 use Rattle.stars.proofs.Views.{same_star}
 use Rattle.stars.proofs.star.Star.copy.Goals as goal
 

@@ -10,7 +10,7 @@ use Rattle.board_rule.specs.declared.data.Slot.{Slot}
 use Rattle.board_rule.proofs.Keeps.{closes}
 use Rattle.vertex_claims.specs.Passes.{main_knows}
 use Rattle.vertex_claims.specs.declared.board.Board.{Board}
-use Rattle.vertex_claims.specs.declared.chief.Main.{Main}
+use Rattle.vertex_claims.specs.declared.main_seat.Main.{Main}
 use Rattle.vertex_claims.proofs.Ends.{is_end, numbered_stars}
 use Rattle.vertex_claims.proofs.Seats.{is_a_main}
 use Rattle.vertex_claims.proofs.board.Board.close.Goals as goal

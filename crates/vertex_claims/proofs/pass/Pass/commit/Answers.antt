@@ -1,12 +1,12 @@
 use Rattle.std.proofs.Common.{◌≡◌, ◌≤◌, ◌+◌, ℕ, List, ◌∷◌, [], ◌++◌, false, sym, ap, ◌∙◌, subst, arith, refl, length, length-append}
-use Rattle.complex_core.specs.Spaces.{Space}
+use Rattle.complex_core.specs.Complexes.{ComplexView}
 use Rattle.atomic_table.specs.Table.{rest}
 use Rattle.flip_rules.specs.Entries.{JournalEntry}
 use Rattle.flip_rules.specs.declared.flip.Flip.{Flip}
 use Rattle.board_rule.specs.Tries.{wins}
-use Rattle.board_rule.specs.Views.{hand_of, keeps, committed}
+use Rattle.board_rule.specs.Views.{pass_view_of, keeps, committed}
 use Rattle.board_rule.specs.Plays.{Seated, Sees}
-use Rattle.board_rule.specs.declared.view.Hand.{Hand}
+use Rattle.board_rule.specs.declared.view.PassView.{PassView}
 use Rattle.board_rule.specs.declared.view.View.TheVariants.{Pass}
 use Rattle.board_rule.specs.Ends.{Commits}
 use Rattle.board_rule.proofs.Keeps.{commits}
@@ -43,7 +43,7 @@ store-requires c =
     let s = c.bring.ensures.slots in
     let j = c.append.ensures.journal in
     let has = c.requires.journal in
-    let v : Hand = know self in
+    let v : PassView = know self in
     let view : end.0 ≡ Pass v = c.append.ensures.seat.2 ∙ (s.view ∙ is_view self) in
     let e : JournalEntry = entry_of self board c.args.flips.now in
     let may : Commits board.table.shared.key v e = record {
@@ -70,7 +70,7 @@ store-requires c =
     )
 
 -- what the commit tells
-told : (c : After-store) → (k : Space) × (c.store.new.seat.me ≡ (Pass (committed (know c.args.self.now) (entry_of c.args.self.now c.args.board.now c.args.flips.now) k), rest c.bring.new.seat.me.1))
+told : (c : After-store) → (k : ComplexView) × (c.store.new.seat.me ≡ (Pass (committed (know c.args.self.now) (entry_of c.args.self.now c.args.board.now c.args.flips.now) k), rest c.bring.new.seat.me.1))
     × Sees (committed (know c.args.self.now) (entry_of c.args.self.now c.args.board.now c.args.flips.now) k) × (length ((know c.args.self.now).mine ++ entry_of c.args.self.now c.args.board.now c.args.flips.now ∷ []) ≤ wins (know c.args.self.now).tries)
 told c =
     let self = c.args.self.now in
@@ -80,14 +80,14 @@ told c =
     let s = c.bring.ensures.slots in
     let j = c.append.ensures.journal in
     let e : JournalEntry = entry_of self board c.args.flips.now in
-    let same : hand_of end.0 ≡ know self = ap hand_of (c.append.ensures.seat.2 ∙ s.view) in
+    let same : pass_view_of end.0 ≡ know self = ap pass_view_of (c.append.ensures.seat.2 ∙ s.view) in
     let others : rest end.1 ≡ rest mid.1 = ap rest j.3 in
     let t = c.store.ensures.2 j.1 j.0.entries e (with_rest end.1 _ _ j.3) (j.4 ∙ (λ i. j.0.entries ++ same_entry self board c.args.flips.now c.in-Ok.entry c.in-Ok.ensures.ok i ∷ [])) in
     let few = t.3 in (
       t.0,
       t.1 ∙ (λ i. (Pass (committed (same i) e t.0), others i)),
-      subst (λ (v : Hand). Sees (committed v e t.0)) same t.2,
-      subst (λ (v : Hand). length (v.mine ++ e ∷ []) ≤ wins v.tries) same few,
+      subst (λ (v : PassView). Sees (committed v e t.0)) same t.2,
+      subst (λ (v : PassView). length (v.mine ++ e ∷ []) ≤ wins v.tries) same few,
     )
 
 -- a pass has at most as many entries as won marks
@@ -104,14 +104,14 @@ pub invariant_of-self-clause-ready : goal.invariant_of-self-clause-ready
 invariant_of-self-clause-ready c =
     let self = c.args.self.now in
     let mid = c.bring.new.seat.me in
-    let v : Hand = know self in
+    let v : PassView = know self in
     let e : JournalEntry = entry_of self c.args.board.now c.args.flips.now in
     let t = told c in
     let less = committed_keeps v e t.0 in
-    let same = ap hand_of c.bring.ensures.slots.view in
+    let same = ap pass_view_of c.bring.ensures.slots.view in
     subst (λ (o : List ℕ). Ready c.store.new.seat.me o (self.places + 1) self.worker) (sym c.pop_front-journal.ensures.rest)
     (ready_gone self.seat.me mid c.store.new.seat.me _ _ _ _ 0 c.bring.ensures.top.0 (committed v e t.0) self.ready c.bring.ensures.slots c.bring.ensures.order.0 c.bring.ensures.top.1 t.1
-    (ap (λ (h : Hand). h.worker) (sym same)) less.0 (λ q ne. less.1 q ne ∙ ap (λ (h : Hand). keeps h q) (sym same)))
+    (ap (λ (h : PassView). h.worker) (sym same)) less.0 (λ q ne. less.1 q ne ∙ ap (λ (h : PassView). keeps h q) (sym same)))
 
 pub invariant_of-self-clause-flagged : goal.invariant_of-self-clause-flagged
 invariant_of-self-clause-flagged c =
@@ -141,7 +141,7 @@ pub invariant_of-self-clause-sees : goal.invariant_of-self-clause-sees
 invariant_of-self-clause-sees c = let t = told c in subst (λ (m : Seated). Sees (knows m)) (sym t.1) t.2
 
 pub returns-clause-known : goal.returns-clause-known
-returns-clause-known c = let t = told c.before in (t.0, ap (λ (m : Seated). hand_of m.0) t.1)
+returns-clause-known c = let t = told c.before in (t.0, ap (λ (m : Seated). pass_view_of m.0) t.1)
 
 pub returns-clause-slots : goal.returns-clause-slots
 returns-clause-slots c =

@@ -1,9 +1,9 @@
 use Rattle.std.proofs.Common.{◌≡◌, ℕ, ◌++◌, ◌∷◌, [], true, sym, ap, ◌∙◌, arith, length}
-use Rattle.complex_core.specs.Spaces.{Space}
+use Rattle.complex_core.specs.Complexes.{ComplexView}
 use Rattle.board_rule.specs.Tries.{won_try, lost_try}
 use Rattle.board_rule.specs.Views.{keeps, opened_by, lost_by}
 use Rattle.board_rule.specs.Plays.{Seated}
-use Rattle.board_rule.specs.declared.data.Home.{Home as HomeOf}
+use Rattle.board_rule.specs.declared.data.VersionedStar.{VersionedStar}
 use Rattle.board_rule.specs.declared.data.Slot.TheVariants.{Home}
 use Rattle.board_rule.specs.declared.view.View.TheVariants.{Pass}
 use Rattle.vertex_claims.specs.declared.mark.Found.TheVariants.{Won}
@@ -86,7 +86,7 @@ invariant_of-self-clause-marked c =
     c.push_reserved.ensures.items ∙ ((λ i. c.args.self.now.marked i ++ mark i ∷ []) ∙ sym (ap (λ (m : Seated). marks_of (knows m).tries) (refused c)))
 
 -- the seat after a claim that was won
-won : (c : goal.After-push_reserved-2) → (x : HomeOf) × (k : Space) × (c.version_in-version.new.seat.me ≡ (Pass (opened_by (know c.args.self.now) c.from.result x k), (c.from.result, Home x) ∷ c.args.self.now.seat.me.1)) × (c.version_in-version.result ≡ x.version)
+won : (c : goal.After-push_reserved-2) → (x : VersionedStar) × (k : ComplexView) × (c.version_in-version.new.seat.me ≡ (Pass (opened_by (know c.args.self.now) c.from.result x k), (c.from.result, Home x) ∷ c.args.self.now.seat.me.1)) × (c.version_in-version.result ≡ x.version)
 won c =
     let t = c.compare_exchange-found.ensures.2.0 c.if-found-ne0.false in
     let place = c.from.ensures in

@@ -1,7 +1,7 @@
 use Rattle.std.proofs.Common.{◌≡◌, ◌+◌, ℕ, List, ◌∷◌, ◌∙◌, ap, sym, subst, arith}
 use Rattle.atomic_table.specs.Table.{rest}
 use Rattle.board_rule.specs.Books.{Book}
-use Rattle.board_rule.specs.Views.{hand_of}
+use Rattle.board_rule.specs.Views.{pass_view_of}
 use Rattle.board_rule.specs.Plays.{Seated, Sees}
 use Rattle.board_rule.specs.declared.data.Slot.TheVariants.{Journal}
 use Rattle.board_rule.specs.declared.view.View.{View}
@@ -39,10 +39,10 @@ again self mid new order b n s ord view is ends same =
     record {
       ready = ready_swapped self.seat.me mid new _ order _ _ 0 (Journal b) (Journal n) self.ready s ord is put;
       flagged = flags_view self.seat.me new self.held.items self.places back self.flagged;
-      claims = self.claims ∙ sym (ap (λ (v : View). (hand_of v).claiming) back);
+      claims = self.claims ∙ sym (ap (λ (v : View). (pass_view_of v).claiming) back);
       book = book_again self.seat.me mid new b n s is put same self.book;
-      marked = self.marked ∙ sym (ap (λ (v : View). marks_of (hand_of v).tries) back);
-      sees = subst (λ (v : View). Sees (hand_of v)) (sym back) self.sees;
+      marked = self.marked ∙ sym (ap (λ (v : View). marks_of (pass_view_of v).tries) back);
+      sees = subst (λ (v : View). Sees (pass_view_of v)) (sym back) self.sees;
     }
 
 pub invariant_of-self-clause-ready : goal.invariant_of-self-clause-ready

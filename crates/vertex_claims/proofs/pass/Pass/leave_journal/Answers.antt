@@ -1,6 +1,6 @@
 use Rattle.std.proofs.Common.{◌+◌, ℕ, List, ◌∷◌, false, sym, ap, ◌∙◌, subst, arith, refl}
 use Rattle.atomic_table.specs.Table.{rest}
-use Rattle.board_rule.specs.Views.{keeps, hand_of, is_pass, without_journal}
+use Rattle.board_rule.specs.Views.{keeps, pass_view_of, is_pass, without_journal}
 use Rattle.board_rule.specs.Plays.{Seated, Sees}
 use Rattle.board_rule.specs.declared.view.View.{View}
 use Rattle.board_rule.proofs.Sees.{sees_left}
@@ -29,8 +29,8 @@ store-requires c =
           (is_a_pass mid.0 (ap is_pass s.view ∙ self.ready.passes))
           front
           (sized.1 ∙ ap (λ (k : ℕ). k + 1) (sym board.told.0))
-          (ap (λ (v : View). (hand_of v).has_journal) s.view ∙ c.requires.held)
-          (entries ∙ sym (ap (λ (v : View). (hand_of v).journal) s.view)),
+          (ap (λ (v : View). (pass_view_of v).has_journal) s.view ∙ c.requires.held)
+          (entries ∙ sym (ap (λ (v : View). (pass_view_of v).journal) s.view)),
     )
 
 pub invariant_of-self-clause-ready : goal.invariant_of-self-clause-ready
@@ -51,7 +51,7 @@ returns-clause-slots c =
     drops self.seat.me mid c.store.new.seat.me 0 c.bring.ensures.top.0 c.bring.ensures.slots self.ready.once c.bring.ensures.top.1 (ap (λ m. m.1) c.store.ensures.2)
 
 pub invariant_of-self-clause-marked : goal.invariant_of-self-clause-marked
-invariant_of-self-clause-marked c = c.args.self.now.marked ∙ sym (ap (λ (m : Seated). marks_of (knows m).tries) c.store.ensures.2 ∙ ap (λ (v : View). marks_of (hand_of v).tries) c.bring.ensures.slots.view)
+invariant_of-self-clause-marked c = c.args.self.now.marked ∙ sym (ap (λ (m : Seated). marks_of (knows m).tries) c.store.ensures.2 ∙ ap (λ (v : View). marks_of (pass_view_of v).tries) c.bring.ensures.slots.view)
 
 pub invariant_of-self-clause-flagged : goal.invariant_of-self-clause-flagged
 invariant_of-self-clause-flagged c =
@@ -60,10 +60,10 @@ invariant_of-self-clause-flagged c =
     let less = without_journal_keeps (knows c.bring.new.seat.me) in
     flags_set self.seat.me c.store.new.seat.me self.held.items self.places 0 0 false self.flagged refl (omega arith)
     (ap (λ (m : Seated). keeps (knows m) 0) c.store.ensures.2 ∙ less.0)
-    (λ q ne. ap (λ (m : Seated). keeps (knows m) q) c.store.ensures.2 ∙ (less.1 q ne ∙ ap (λ (v : View). keeps (hand_of v) q) view))
+    (λ q ne. ap (λ (m : Seated). keeps (knows m) q) c.store.ensures.2 ∙ (less.1 q ne ∙ ap (λ (v : View). keeps (pass_view_of v) q) view))
 
 pub invariant_of-self-clause-sees : goal.invariant_of-self-clause-sees
 invariant_of-self-clause-sees c =
     let mid = c.bring.new.seat.me in
-    let before : Sees (knows mid) = subst (λ (v : View). Sees (hand_of v)) (sym c.bring.ensures.slots.view) c.args.self.now.sees in
+    let before : Sees (knows mid) = subst (λ (v : View). Sees (pass_view_of v)) (sym c.bring.ensures.slots.view) c.args.self.now.sees in
     subst (λ (m : Seated). Sees (knows m)) (sym c.store.ensures.2) (sees_left (knows mid) before)

@@ -2,9 +2,9 @@ use Rattle.std.proofs.Common.{◌≡◌, ◌+◌, ℕ, true, false, List, ◌∷
 use mathlib.Core.Option.{none, some-injective}
 use Rattle.atomic_table.specs.Table.{rest}
 use Rattle.board_rule.specs.Items.{item}
-use Rattle.board_rule.specs.Views.{keeps, hand_of, is_pass, without_item}
+use Rattle.board_rule.specs.Views.{keeps, pass_view_of, is_pass, without_item}
 use Rattle.board_rule.specs.Plays.{Seated, Sees}
-use Rattle.board_rule.specs.declared.data.Home.{Home as HomeOf}
+use Rattle.board_rule.specs.declared.data.VersionedStar.{VersionedStar}
 use Rattle.board_rule.specs.declared.data.Slot.TheVariants.{Home}
 use Rattle.board_rule.specs.declared.view.View.{View}
 use Rattle.board_rule.proofs.Items.{tested}
@@ -32,8 +32,8 @@ store-requires c =
     let place : c.from-2.result ≡ c.args.place = c.from-2.ensures in
     let top = c.bring.ensures.top in
     let s = c.bring.ensures.slots in
-    let x : HomeOf = c.requires.known.0 in
-    let same_view = ap hand_of s.view in
+    let x : VersionedStar = c.requires.known.0 in
+    let same_view = ap pass_view_of s.view in
     let is_x : top.0 ≡ Home x = some-injective top.0 (Home x) (sym top.2 ∙ (s.slots c.args.place ∙ c.requires.known.1)) in
     let there = slot_there self.seat.me c.args.place _ c.requires.known.1 in
     let has : keeps (know self) c.args.place ≡ true = sym (self.ready.agrees c.args.place) ∙ there in
@@ -48,8 +48,8 @@ store-requires c =
           (top.1 ∙ (λ i. (back i, is_x i) ∷ rest mid.1))
           (sized.1 ∙ ap (λ (k : ℕ). k + 1) (sym board.told.0))
           (omega arith)
-          (ap (λ (v : View). keeps (hand_of v) c.from-2.result) s.view ∙ (ap (λ (k : ℕ). keeps (know self) k) place ∙ has))
-          (ap (λ (v : View). item (hand_of v).items c.from-2.result) s.view ∙ (ap (λ (k : ℕ). item (know self).items k) place ∙ c.requires.known.2)),
+          (ap (λ (v : View). keeps (pass_view_of v) c.from-2.result) s.view ∙ (ap (λ (k : ℕ). keeps (know self) k) place ∙ has))
+          (ap (λ (v : View). item (pass_view_of v).items c.from-2.result) s.view ∙ (ap (λ (k : ℕ). item (know self).items k) place ∙ c.requires.known.2)),
     )
 
 pub invariant_of-self-clause-ready : goal.invariant_of-self-clause-ready
@@ -78,10 +78,10 @@ invariant_of-self-clause-book c =
     let gone = drops self.seat.me mid c.store.new.seat.me c.args.place c.bring.ensures.top.0 c.bring.ensures.slots self.ready.once c.bring.ensures.top.1 (ap (λ m. m.1) c.store.ensures.2) 0 in
     let other : slot_at c.store.new.seat.me 0 ≡ slot_at self.seat.me 0 = gone ∙ tested c.args.place 0 (λ b. cond b none (slot_at self.seat.me 0) ≡ slot_at self.seat.me 0) (λ e. absurd (omega arith)) (λ _. refl) in
     let view = c.bring.ensures.slots.view in
-    book_after self.seat.me c.store.new.seat.me other (ap (λ m. (knows m).has_journal) c.store.ensures.2 ∙ ap (λ (v : View). (hand_of v).has_journal) view) (ap (λ m. (knows m).journal) c.store.ensures.2 ∙ ap (λ (v : View). (hand_of v).journal) view) self.book
+    book_after self.seat.me c.store.new.seat.me other (ap (λ m. (knows m).has_journal) c.store.ensures.2 ∙ ap (λ (v : View). (pass_view_of v).has_journal) view) (ap (λ m. (knows m).journal) c.store.ensures.2 ∙ ap (λ (v : View). (pass_view_of v).journal) view) self.book
 
 pub invariant_of-self-clause-marked : goal.invariant_of-self-clause-marked
-invariant_of-self-clause-marked c = c.args.self.now.marked ∙ sym (ap (λ (m : Seated). marks_of (knows m).tries) c.store.ensures.2 ∙ ap (λ (v : View). marks_of (hand_of v).tries) c.bring.ensures.slots.view)
+invariant_of-self-clause-marked c = c.args.self.now.marked ∙ sym (ap (λ (m : Seated). marks_of (knows m).tries) c.store.ensures.2 ∙ ap (λ (v : View). marks_of (pass_view_of v).tries) c.bring.ensures.slots.view)
 
 pub invariant_of-self-clause-flagged : goal.invariant_of-self-clause-flagged
 invariant_of-self-clause-flagged c =
@@ -93,7 +93,7 @@ invariant_of-self-clause-flagged c =
     let near = self.ready.below c.args.place there in
     flags_set self.seat.me c.store.new.seat.me self.held.items self.places c.args.place c.from.result false self.flagged c.from.ensures (omega arith)
     (ap (λ (m : Seated). keeps (knows m) c.args.place) c.store.ensures.2 ∙ less.0)
-    (λ q ne. ap (λ (m : Seated). keeps (knows m) q) c.store.ensures.2 ∙ (less.1 q ne ∙ ap (λ (v : View). keeps (hand_of v) q) view))
+    (λ q ne. ap (λ (m : Seated). keeps (knows m) q) c.store.ensures.2 ∙ (less.1 q ne ∙ ap (λ (v : View). keeps (pass_view_of v) q) view))
 
 pub invariant_of-self-clause-room : goal.invariant_of-self-clause-room
 invariant_of-self-clause-room c =
@@ -107,5 +107,5 @@ invariant_of-self-clause-room c =
 pub invariant_of-self-clause-sees : goal.invariant_of-self-clause-sees
 invariant_of-self-clause-sees c =
     let mid = c.bring.new.seat.me in
-    let before : Sees (knows mid) = subst (λ (v : View). Sees (hand_of v)) (sym c.bring.ensures.slots.view) c.args.self.now.sees in
+    let before : Sees (knows mid) = subst (λ (v : View). Sees (pass_view_of v)) (sym c.bring.ensures.slots.view) c.args.self.now.sees in
     subst (λ (m : Seated). Sees (knows m)) (sym c.store.ensures.2) (sees_less (knows mid) c.from-2.result before)

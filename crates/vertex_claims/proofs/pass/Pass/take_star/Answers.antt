@@ -1,5 +1,5 @@
 use Rattle.std.proofs.Common.{ℕ, ◌∙◌, sym, ap, subst, refl}
-use Rattle.board_rule.specs.Views.{hand_of}
+use Rattle.board_rule.specs.Views.{pass_view_of}
 use Rattle.board_rule.specs.Plays.{Seated, Sees}
 use Rattle.board_rule.specs.declared.data.Slot.TheVariants.{Home, Out}
 use Rattle.board_rule.specs.declared.view.View.{View}
@@ -42,9 +42,9 @@ invariant_of-self-clause-room c =
     self.room
 
 pub invariant_of-self-clause-marked : goal.invariant_of-self-clause-marked
-invariant_of-self-clause-marked c = c.args.self.now.marked ∙ sym (ap (λ (m : Seated). marks_of (knows m).tries) c.exchange.ensures.3 ∙ ap (λ (v : View). marks_of (hand_of v).tries) c.bring.ensures.slots.view)
+invariant_of-self-clause-marked c = c.args.self.now.marked ∙ sym (ap (λ (m : Seated). marks_of (knows m).tries) c.exchange.ensures.3 ∙ ap (λ (v : View). marks_of (pass_view_of v).tries) c.bring.ensures.slots.view)
 
 pub invariant_of-self-clause-sees : goal.invariant_of-self-clause-sees
 invariant_of-self-clause-sees c =
     let view = ap (λ (m : Seated). m.0) c.exchange.ensures.3 ∙ c.bring.ensures.slots.view in
-    subst (λ (v : View). Sees (hand_of v)) (sym view) c.args.self.now.sees
+    subst (λ (v : View). Sees (pass_view_of v)) (sym view) c.args.self.now.sees

@@ -1,5 +1,0 @@
-use Rattle.flip_options.proofs.Joining.{JoinSoFar}
-use Rattle.flip_options.proofs.near.labels_over.Given as goal
-
-abbrev pub invariant-loop-row : goal.invariant-loop-row
-invariant-loop-row l = JoinSoFar l.rows l.set l.row-index l.all

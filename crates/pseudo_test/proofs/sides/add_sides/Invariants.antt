@@ -1,6 +1,0 @@
-use Rattle.std.proofs.Common.{◌≡◌, ◌++◌, map, take}
-use Rattle.complex_core.specs.Labels.{without}
-use Rattle.pseudo_test.proofs.sides.add_sides.Given as goal
-
-abbrev pub invariant-loop-label : goal.invariant-loop-label
-invariant-loop-label l = l.all.items ≡ l.initial.all.items ++ map (λ x. (without l.facet x, x)) (take l.label-index l.label-items)

@@ -1,7 +1,0 @@
-use Rattle.std.proofs.Common.{◌≡◌, take}
-use Rattle.std.specs.List.{flat_map}
-use Rattle.pseudo_test.specs.Sides.{sides_of}
-use Rattle.pseudo_test.proofs.sides.all_sides.Given as goal
-
-abbrev pub invariant-loop-facet : goal.invariant-loop-facet
-invariant-loop-facet l = l.all.items ≡ flat_map sides_of (take l.facet-index l.facet-items)
