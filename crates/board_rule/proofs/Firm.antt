@@ -8,7 +8,7 @@ use Rattle.flip_rules.specs.Flips.{replay}
 use Rattle.flip_rules.specs.Entries.{JournalEntry}
 use Rattle.flip_rules.specs.Journals.{mine}
 use Rattle.star_laws.specs.Stars.{flips_touch}
-use Rattle.flip_world.specs.Cores.{after, of_worker}
+use Rattle.core_laws.specs.Cores.{after, of_worker}
 use Rattle.board_rule.specs.Books.{Book}
 use Rattle.board_rule.specs.Items.{item}
 use Rattle.board_rule.specs.Views.{home_at, keeps, Empty, opened_by, with_item, with_journal, without_item, without_journal, committed, one_more_pass, one_back}

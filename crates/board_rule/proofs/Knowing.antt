@@ -10,8 +10,8 @@ use Rattle.flip_rules.proofs.Journals.{touches-append, touches-cons}
 use Rattle.flip_rules.proofs.Replays.{replay_dim}
 use Rattle.star_laws.specs.Stars.{star, AlikeOn, flips_touch, star_after_all, LabelsPass}
 use Rattle.star_laws.proofs.ReplayStars.{replay_alike, others_replay, star_replayed}
-use Rattle.flip_world.specs.Cores.{after}
-use Rattle.flip_world.proofs.Replays.{replay_end, other_end}
+use Rattle.core_laws.specs.Cores.{after}
+use Rattle.core_laws.proofs.Replays.{replay_end, other_end}
 use Rattle.stars.specs.StarViews.{VertexStar, UsesUpTo}
 use Rattle.board_rule.specs.Items.{item, has_item}
 use Rattle.board_rule.specs.Views.{home, star_in, home_at, flipped_home, newcomer, opened_by, with_item, with_journal, without_item, without_journal, committed}

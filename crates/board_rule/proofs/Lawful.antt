@@ -16,12 +16,12 @@ use Rattle.flip_rules.specs.declared.flip.Illegal.{Illegal}
 use Rattle.flip_rules.specs.declared.flip.Illegal.TheVariants.{Shape}
 use Rattle.flip_rules.proofs.Replays.{first_flip, replay_then}
 use Rattle.star_laws.specs.Stars.{flips_touch}
-use Rattle.flip_world.specs.declared.event.Event.TheVariants as event
-use Rattle.flip_world.specs.declared.event.Told.TheVariants as told
-use Rattle.flip_world.specs.declared.event.Refused.TheVariants as refusal
-use Rattle.flip_world.specs.Cores.{after, Core, IsWorker, places_of, owner_of, pending_of, with_pending, complex_of, seen_by, of_worker}
-use Rattle.flip_world.specs.Steps.{Step, FlipHeld, next_entry}
-use Rattle.flip_world.proofs.Replays.{after_is}
+use Rattle.core_laws.specs.declared.event.Event.TheVariants as event
+use Rattle.core_laws.specs.declared.event.Told.TheVariants as told
+use Rattle.core_laws.specs.declared.event.Refused.TheVariants as refusal
+use Rattle.core_laws.specs.Cores.{after, Core, IsWorker, places_of, owner_of, pending_of, with_pending, complex_of, seen_by, of_worker}
+use Rattle.core_laws.specs.Steps.{Step, FlipHeld, next_entry}
+use Rattle.core_laws.proofs.Replays.{after_is}
 use Rattle.board_rule.specs.Books.{Book}
 use Rattle.board_rule.specs.Views.{home_at, keeps, opened_by, lost_by, with_item, counted, with_journal, without_item, without_journal, committed, one_more_pass, one_back, newcomer}
 use Rattle.board_rule.specs.Rule.{Board, Ruled, core_of}

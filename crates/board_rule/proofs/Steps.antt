@@ -5,7 +5,7 @@ use lib.ListN.{get_elem?}
 use Rattle.atomic_table.specs.Table.{opening}
 use Rattle.complex_core.specs.Complexes.{ComplexView}
 use Rattle.flip_rules.specs.Entries.{JournalEntry}
-use Rattle.flip_world.specs.Cores.{after}
+use Rattle.core_laws.specs.Cores.{after}
 use Rattle.board_rule.specs.Books.{Book}
 use Rattle.board_rule.specs.Items.{item}
 use Rattle.board_rule.specs.Views.{home_at, keeps, Empty, opened_by, lost_by, with_item, counted, with_journal, without_item, without_journal, committed, one_more_pass, one_back}

@@ -7,8 +7,8 @@ use Rattle.complex_core.specs.Complexes.{ComplexView}
 use Rattle.flip_rules.specs.Entries.{JournalEntry}
 use Rattle.flip_rules.specs.Journals.{mine, touches}
 use Rattle.flip_rules.proofs.Journals.{touches-append}
-use Rattle.flip_world.specs.Cores.{of_worker}
-use Rattle.flip_world.specs.Serials.{numbers_from}
+use Rattle.core_laws.specs.Cores.{of_worker}
+use Rattle.core_laws.specs.Serials.{numbers_from}
 use Rattle.board_rule.specs.Rule.{IsEntry, Written}
 use Rattle.board_rule.specs.declared.setup.Setup.{Setup}
 use Rattle.board_rule.proofs.Items.{tested}

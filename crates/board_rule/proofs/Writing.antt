@@ -21,9 +21,9 @@ use Rattle.flip_rules.specs.declared.flip.Flip.{Flip}
 use Rattle.flip_rules.proofs.Replays.{replay-append, complex_replayed}
 use Rattle.star_laws.specs.Stars.{flips_touch}
 use Rattle.star_laws.proofs.ReplayStars.{others_replay}
-use Rattle.flip_world.specs.Cores.{complex_of, pending_of, of_worker}
-use Rattle.flip_world.specs.Serials.{Serial, numbers_from}
-use Rattle.flip_world.proofs.Replays.{some_replay, flat_push}
+use Rattle.core_laws.specs.Cores.{complex_of, pending_of, of_worker}
+use Rattle.core_laws.specs.Serials.{Serial, numbers_from}
+use Rattle.core_laws.proofs.Replays.{some_replay, flat_push}
 use Rattle.stars.specs.StarViews.{UsesUpTo}
 use Rattle.board_rule.specs.Rule.{core_of, IsEntry, Written}
 use Rattle.board_rule.specs.Ends.{Opens}
@@ -32,7 +32,7 @@ use Rattle.board_rule.specs.declared.data.Slot.{Slot}
 use Rattle.board_rule.proofs.Items.{off}
 use Rattle.complex_core.proofs.Members.{each_member}
 use Rattle.stars.proofs.Mapping.{has_append}
-use Rattle.flip_world.proofs.Rows.{numbers_push}
+use Rattle.core_laws.proofs.Rows.{numbers_push}
 
 -- ---- the core of a board
 

@@ -9,8 +9,8 @@ use Rattle.complex_core.specs.Complexes.{ComplexView, IsComplex}
 use Rattle.flip_rules.specs.Flips.{replay, OfFaces}
 use Rattle.flip_rules.specs.Entries.{JournalEntry}
 use Rattle.flip_rules.specs.Journals.{flat, mine, touches}
-use Rattle.flip_world.specs.Cores.{Core}
-use Rattle.flip_world.specs.Serials.{Serial}
+use Rattle.core_laws.specs.Cores.{Core}
+use Rattle.core_laws.specs.Serials.{Serial}
 use Rattle.star_laws.specs.Stars.{flips_touch}
 use Rattle.stars.specs.StarViews.{UsesUpTo}
 use Rattle.board_rule.specs.Items.{item, has_item}

@@ -8,11 +8,11 @@ use Rattle.atomic_table.specs.Table.{opening, Final, Seen}
 use Rattle.complex_core.specs.Complexes.{ComplexView}
 use Rattle.flip_rules.specs.Entries.{JournalEntry}
 use Rattle.flip_rules.specs.declared.flip.Flip.{Flip}
-use Rattle.flip_world.specs.declared.event.Event.TheVariants as event
-use Rattle.flip_world.specs.declared.event.Told.TheVariants as told
-use Rattle.flip_world.specs.declared.event.Refused.TheVariants as refused
-use Rattle.flip_world.specs.Cores.{Core, IsWorker, opened, owner_of, pending_of}
-use Rattle.flip_world.specs.Steps.{Step, next_entry, committed as core_committed}
+use Rattle.core_laws.specs.declared.event.Event.TheVariants as event
+use Rattle.core_laws.specs.declared.event.Told.TheVariants as told
+use Rattle.core_laws.specs.declared.event.Refused.TheVariants as refused
+use Rattle.core_laws.specs.Cores.{Core, IsWorker, opened, owner_of, pending_of}
+use Rattle.core_laws.specs.Steps.{Step, next_entry, committed as core_committed}
 use Rattle.board_rule.specs.Books.{Book}
 use Rattle.board_rule.specs.Items.{item}
 use Rattle.board_rule.specs.Views.{keeps, Empty, opened_by, lost_by, with_item, counted, with_journal, without_item, without_journal, committed}

@@ -14,8 +14,8 @@ use Rattle.flip_rules.specs.declared.flip.Flip.{Flip}
 use Rattle.flip_rules.proofs.Legal.{legal, can_put}
 use Rattle.flip_rules.proofs.Links.{staying_sides}
 use Rattle.flip_world.specs.Drafts.{Exchanges, IsDraft, SeenOver}
-use Rattle.flip_world.specs.Cores.{after}
-use Rattle.flip_world.proofs.Replays.{replay_end, some_same}
+use Rattle.core_laws.specs.Cores.{after}
+use Rattle.core_laws.proofs.Replays.{replay_end, some_same}
 use Rattle.flip_rules.proofs.Replays.{replay_dim, complex_flipped}
 use Rattle.complex_core.proofs.Sorting.{each_append, each_filter}
 

@@ -10,7 +10,7 @@ use Rattle.complex_core.proofs.Laws.{nat_eq_is, nat_eq_same, or_left, or_right}
 use Rattle.flip_rules.specs.Journals.{flip_touches}
 use Rattle.flip_rules.specs.declared.flip.Flip.{Flip}
 use Rattle.flip_world.specs.Labels.{lesser}
-use Rattle.flip_world.specs.Steps.{EachLabel, IsLeastFailing}
+use Rattle.core_laws.specs.Steps.{EachLabel, IsLeastFailing}
 
 -- the least of a rising list that fails a test
 record LeastOf (test : ℕ → Bool) (xs : List ℕ) (x : ℕ) : Type 0 where

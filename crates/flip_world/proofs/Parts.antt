@@ -9,11 +9,11 @@ use Rattle.complex_core.proofs.Laws.{nat_eq_is}
 use Rattle.flip_rules.specs.Flips.{broken_rule}
 use Rattle.flip_rules.specs.Entries.{JournalEntry}
 use Rattle.flip_rules.specs.declared.flip.Flip.{Flip}
-use Rattle.flip_world.specs.Cores.{Core, IsWorker, after, workers_of, pending_of, with_owner, with_pending, seen_by, of_worker}
-use Rattle.flip_world.specs.Steps.{FlipHeld, next_entry, committed}
-use Rattle.flip_world.specs.Serials.{Serial}
+use Rattle.core_laws.specs.Cores.{Core, IsWorker, after, workers_of, pending_of, with_owner, with_pending, seen_by, of_worker}
+use Rattle.core_laws.specs.Steps.{FlipHeld, next_entry, committed}
+use Rattle.core_laws.specs.Serials.{Serial}
 use Rattle.flip_world.specs.Worlds.{IsWorld}
-use Rattle.flip_world.proofs.Rows.{flip_keeps, commit_keeps, commit_complex, same_worker}
+use Rattle.core_laws.proofs.Rows.{flip_keeps, commit_keeps, commit_complex, same_worker}
 
 -- the owner of one place changes
 other_owner : (c : Core) (k : ComplexView) (written : List ℕ) (place owner : ℕ) → IsWorld c k written → Serial (with_owner c place owner) → IsWorld (with_owner c place owner) k written

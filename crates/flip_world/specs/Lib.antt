@@ -1,8 +1,4 @@
--- The core of claims, flips, rollbacks and commits.
-pub mod Cores
-pub mod Steps
-pub mod Serials
-pub mod Runs
+-- What a world keeps beside the core, and what is looked for among labels.
 pub mod Drafts
 pub mod Worlds
 pub mod Labels

@@ -1,8 +1,8 @@
 -- What holds of the parts of a world, beside the core that they are.
 use Rattle.std.specs.Prelude.{◌≡◌, ℕ, ◌-◌, ◌<◌, List, length, get_or}
 use Rattle.complex_core.specs.Complexes.{ComplexView, IsComplex}
-use Rattle.flip_world.specs.Cores.{Core, IsWorker, workers_of, complex_of, of_worker}
-use Rattle.flip_world.specs.Serials.{Serial}
+use Rattle.core_laws.specs.Cores.{Core, IsWorker, workers_of, complex_of, of_worker}
+use Rattle.core_laws.specs.Serials.{Serial}
 
 -- the start is a complex, the complex kept is that of the core, there is a place, each worker's entries are counted,
 -- and the core is serial

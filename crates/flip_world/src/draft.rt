@@ -5,7 +5,7 @@ ghost use Rattle.complex_core.specs.Labels.{face_cmp};
 ghost use Rattle.complex_core.specs.Rising.{rising};
 ghost use Rattle.complex_core.specs.Complexes.{IsComplex, over, staying, is_facet};
 ghost use Rattle.flip_rules.specs.Flips.{replay};
-ghost use Rattle.flip_world.specs.Cores.{after};
+ghost use Rattle.core_laws.specs.Cores.{after};
 ghost use Rattle.flip_world.specs.Drafts.{SeenOver};
 
 use complex_core::{Complex, Face, put_all_in, take_all_out};

@@ -1,9 +1,9 @@
 // Whether a worker may do what an event asks.
 ghost use Rattle.std.specs.Prelude.{◌≡◌, ◌≤◌, ◌+◌, ℕ, nat_le, nat_eq, not, find, get_or, length, Ok, IfOk, IsSome, MatchOption, OnOk};
 ghost use Rattle.flip_rules.specs.Flips.{broken_rule, replay};
-ghost use Rattle.flip_world.specs.Cores.{after};
+ghost use Rattle.core_laws.specs.Cores.{after};
 ghost use Rattle.flip_world.specs.Labels.{lesser};
-ghost use Rattle.flip_world.specs.Steps.{EachLabel, IsLeastFailing};
+ghost use Rattle.core_laws.specs.Steps.{EachLabel, IsLeastFailing};
 
 use crate::draft::Draft;
 use complex_core::Complex;

@@ -5,12 +5,12 @@ ghost use Rattle.complex_core.specs.Complexes.{IsComplex};
 ghost use Rattle.flip_rules.specs.Flips.{replay, broken_rule};
 ghost use Rattle.flip_rules.specs.Journals.{flat};
 ghost use Rattle.flip_rules.specs.declared.flip.Illegal.TheVariants.{Shape};
-ghost use Rattle.flip_world.specs.Cores.{Core, IsWorker, IsWithin, places_of, owner_of, pending_of, opened, complex_of, seen_by};
-ghost use Rattle.flip_world.specs.Steps.{Step, StepRefused, ClaimTold, ClaimRefused, EachLabel, IsLeastFailing, is_place, is_owned, FlipHeld, FlipTold, FlipAnswer, RollbackTold, CommitTold, CommitAnswer, ReleaseTold, ReleaseRefused};
-ghost use Rattle.flip_world.specs.Serials.{Serial};
+ghost use Rattle.core_laws.specs.Cores.{Core, IsWorker, IsWithin, places_of, owner_of, pending_of, opened, complex_of, seen_by};
+ghost use Rattle.core_laws.specs.Steps.{Step, StepRefused, ClaimTold, ClaimRefused, EachLabel, IsLeastFailing, is_place, is_owned, FlipHeld, FlipTold, FlipAnswer, RollbackTold, CommitTold, CommitAnswer, ReleaseTold, ReleaseRefused};
+ghost use Rattle.core_laws.specs.Serials.{Serial};
 
 use crate::draft::Draft;
-use crate::event::{Event, Refused, StepFault, Told};
+use core_laws::{Event, Refused, StepFault, Told};
 use crate::judge::{judged, stray_label, unowned_label};
 use complex_core::Complex;
 use flip_rules::{Entry, Flip, Illegal, Journal};
@@ -31,7 +31,7 @@ pub struct World {
 }
 
 impl Model for World {
-    ghost use Rattle.flip_world.specs.Cores.{Core};
+    ghost use Rattle.core_laws.specs.Cores.{Core};
     ghost use Rattle.flip_world.specs.Worlds.{IsWorld};
 
     ghost Value = { Core };

@@ -1,7 +1,7 @@
 -- The jobs that are built: which words ask for each, and what it means.
 use Rattle.std.specs.Prelude.{◌≡◌, ℕ, List, Ok, Some, None}
 use Rattle.std.specs.declared.option.Option.{Option}
-use Rattle.flip_world.specs.Cores.{Core}
+use Rattle.core_laws.specs.Cores.{Core}
 use Rattle.anneal_plan.specs.Numbers.{Numbers}
 use Rattle.round_run.specs.Reports.{ReportView}
 use Rattle.job_words.specs.Jobs.{job_at}

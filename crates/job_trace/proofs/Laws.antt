@@ -1,8 +1,8 @@
 -- The laws of the job `trace`.
 use Rattle.std.proofs.Common.{◌≡◌, true, false, ℕ, Bool, if◌then◌else◌, List, Option, Some, inl, inr, sym, ◌∙◌, ap, refl}
-use Rattle.flip_world.specs.Cores.{Core}
-use Rattle.flip_world.specs.Runs.{Turn}
-use Rattle.flip_world.proofs.OneStep.{runs_one}
+use Rattle.core_laws.specs.Cores.{Core}
+use Rattle.core_laws.specs.Runs.{Turn}
+use Rattle.core_laws.proofs.OneStep.{runs_one}
 use Rattle.trace_text.specs.Traces.{Trace, names}
 use Rattle.job_answer.specs.Statuses.{IsDecided}
 use Rattle.job_answer.specs.Meanings.{Answers, Lawful, Same}

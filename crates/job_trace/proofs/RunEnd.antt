@@ -8,9 +8,9 @@ use Rattle.complex_core.specs.Rising.{rising}
 use Rattle.complex_core.proofs.Renaming.{named}
 use Rattle.flip_rules.specs.Journals.{flat}
 use Rattle.flip_rules.specs.declared.flip.Flip.{Flip}
-use Rattle.flip_world.specs.Cores.{Core, opened, complex_of}
-use Rattle.flip_world.specs.Serials.{Serial}
-use Rattle.flip_world.proofs.Replays.{replay_end}
+use Rattle.core_laws.specs.Cores.{Core, opened, complex_of}
+use Rattle.core_laws.specs.Serials.{Serial}
+use Rattle.core_laws.proofs.Replays.{replay_end}
 use Rattle.trace_text.specs.Traces.{Trace, names}
 use Rattle.job_trace.specs.TraceTexts.{answer_lines, pending_lines, history_lines, verdict_line}
 use Rattle.job_trace.specs.Traced.{opened_for, is_nothing, is_clean, IsTraced, TellsHistory}

@@ -6,17 +6,17 @@ use Rattle.complex_core.specs.Complexes.{ComplexView}
 use Rattle.flip_rules.specs.Journals.{flat}
 use Rattle.flip_rules.specs.declared.flip.Flip.{Flip}
 use Rattle.star_laws.specs.Stars.{Rises, flips_touch}
-use Rattle.flip_world.specs.declared.event.Event.{Event}
-use Rattle.flip_world.specs.declared.event.Event.TheVariants as event
-use Rattle.flip_world.specs.declared.event.Told.{Told}
-use Rattle.flip_world.specs.declared.event.Told.TheVariants.{Claimed, AlreadyHeld, Flipped, RolledBack, Committed, Released}
-use Rattle.flip_world.specs.declared.event.Refused.{Refused}
-use Rattle.flip_world.specs.Cores.{Core, IsWorker, places_of, pending_of, with_owner, with_pending, opened}
-use Rattle.flip_world.specs.Steps.{Step, next_entry, committed}
-use Rattle.flip_world.specs.Serials.{Serial, OwnsLabel}
-use Rattle.flip_world.specs.Runs.{IsEvent, Turn, IsRun}
-use Rattle.flip_world.proofs.Replays.{flat_push, touch-append}
-use Rattle.flip_world.proofs.Runs.{step_next, opened_serial}
+use Rattle.core_laws.specs.declared.event.Event.{Event}
+use Rattle.core_laws.specs.declared.event.Event.TheVariants as event
+use Rattle.core_laws.specs.declared.event.Told.{Told}
+use Rattle.core_laws.specs.declared.event.Told.TheVariants.{Claimed, AlreadyHeld, Flipped, RolledBack, Committed, Released}
+use Rattle.core_laws.specs.declared.event.Refused.{Refused}
+use Rattle.core_laws.specs.Cores.{Core, IsWorker, places_of, pending_of, with_owner, with_pending, opened}
+use Rattle.core_laws.specs.Steps.{Step, next_entry, committed}
+use Rattle.core_laws.specs.Serials.{Serial, OwnsLabel}
+use Rattle.core_laws.specs.Runs.{IsEvent, Turn, IsRun}
+use Rattle.core_laws.proofs.Replays.{flat_push, touch-append}
+use Rattle.core_laws.proofs.Runs.{step_next, opened_serial}
 use Rattle.job_trace.specs.Traced.{end_of}
 
 -- ---- what a step adds

@@ -12,8 +12,8 @@ use Rattle.std.proofs.lemmas.List.Folds.{list_any-append}
 use Rattle.complex_core.specs.Labels.{has}
 use Rattle.complex_core.specs.Complexes.{ComplexView, IsComplex}
 use Rattle.complex_core.specs.Maps.{takes, at, turned, takes_all, names_of, used, greatest, next_after}
-use Rattle.flip_world.specs.declared.event.Event.{Event}
-use Rattle.flip_world.specs.declared.event.Event.TheVariants as event
+use Rattle.core_laws.specs.declared.event.Event.{Event}
+use Rattle.core_laws.specs.declared.event.Event.TheVariants as event
 use Rattle.trace_text.specs.Traces.{Trace, names, is_name, IsTraceEvent}
 use Rattle.job_trace.specs.TraceRuns.{HasPlaces}
 use Rattle.flip_rules.specs.Flips.{replay}

@@ -5,14 +5,14 @@ use Rattle.std.specs.Fmt.{decimal}
 use Rattle.std.proofs.lemmas.Bool.Decides.{nat_tests}
 use Rattle.std.proofs.lemmas.List.{take_more, length-take, length-map}
 use Rattle.flip_rules.specs.declared.flip.Flip.{Flip}
-use Rattle.flip_world.specs.declared.event.Event.{Event}
-use Rattle.flip_world.specs.declared.event.Told.{Told}
-use Rattle.flip_world.specs.declared.event.Refused.{Refused}
-use Rattle.flip_world.specs.declared.event.StepFault.{StepFault}
-use Rattle.flip_world.specs.declared.event.StepFault.TheVariants as fault
-use Rattle.flip_world.specs.Cores.{Core, pending_of}
-use Rattle.flip_world.specs.Steps.{Step, StepRefused}
-use Rattle.flip_world.specs.Runs.{IsEvent, Turn, IsRun}
+use Rattle.core_laws.specs.declared.event.Event.{Event}
+use Rattle.core_laws.specs.declared.event.Told.{Told}
+use Rattle.core_laws.specs.declared.event.Refused.{Refused}
+use Rattle.core_laws.specs.declared.event.StepFault.{StepFault}
+use Rattle.core_laws.specs.declared.event.StepFault.TheVariants as fault
+use Rattle.core_laws.specs.Cores.{Core, pending_of}
+use Rattle.core_laws.specs.Steps.{Step, StepRefused}
+use Rattle.core_laws.specs.Runs.{IsEvent, Turn, IsRun}
 use Rattle.flip_rules.specs.Entries.{JournalEntry}
 use Rattle.job_answer.specs.Lines.{flip_line}
 use Rattle.trace_text.specs.Traces.{Trace, names}

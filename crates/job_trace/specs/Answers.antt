@@ -1,8 +1,8 @@
 -- What the job `trace` answers.
 use Rattle.std.specs.Prelude.{◌≡◌, true, ◌≤◌, ℕ, List, length, map, Ok, Some, None}
 use Rattle.std.specs.declared.option.Option.{Option}
-use Rattle.flip_world.specs.Cores.{Core}
-use Rattle.flip_world.specs.Runs.{Turn, IsRun}
+use Rattle.core_laws.specs.Cores.{Core}
+use Rattle.core_laws.specs.Runs.{Turn, IsRun}
 use Rattle.trace_text.specs.Traces.{Trace, names}
 use Rattle.job_answer.specs.Meanings.{Meaning}
 use Rattle.job_answer.specs.Statuses.{IsDecided}

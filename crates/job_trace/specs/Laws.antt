@@ -1,7 +1,7 @@
 -- What an answer of `trace` tells.
 use Rattle.std.specs.Prelude.{◌≡◌, ◌↔◌, ℕ, List}
 use Rattle.std.specs.declared.option.Option.{Option}
-use Rattle.flip_world.specs.Cores.{Core}
+use Rattle.core_laws.specs.Cores.{Core}
 use Rattle.job_answer.specs.Meanings.{Answers}
 use Rattle.job_answer.specs.Statuses.{IsDecided}
 use Rattle.job_answer.specs.declared.status.Status.{Status}

@@ -3,13 +3,13 @@ use Rattle.std.specs.Prelude.{◌≡◌, true, ℕ, Bool, List, [], ◌∷◌, �
 use Rattle.std.specs.List.{list_all}
 use Rattle.std.specs.Fmt.{decimal}
 use Rattle.complex_core.specs.Maps.{takes}
-use Rattle.flip_world.specs.declared.event.Event.{Event}
-use Rattle.flip_world.specs.declared.event.Event.TheVariants as event
-use Rattle.flip_world.specs.declared.event.Told.{Told}
-use Rattle.flip_world.specs.declared.event.Refused.{Refused}
-use Rattle.flip_world.specs.Cores.{Core}
-use Rattle.flip_world.specs.Steps.{Step}
-use Rattle.flip_world.specs.Runs.{Turn, IsRun}
+use Rattle.core_laws.specs.declared.event.Event.{Event}
+use Rattle.core_laws.specs.declared.event.Event.TheVariants as event
+use Rattle.core_laws.specs.declared.event.Told.{Told}
+use Rattle.core_laws.specs.declared.event.Refused.{Refused}
+use Rattle.core_laws.specs.Cores.{Core}
+use Rattle.core_laws.specs.Steps.{Step}
+use Rattle.core_laws.specs.Runs.{Turn, IsRun}
 use Rattle.trace_text.specs.Traces.{Trace, names}
 use Rattle.job_trace.specs.TraceTexts.{answer_line, answer_lines}
 use Rattle.job_trace.specs.Traced.{placed, opened_for, end_of, is_told}

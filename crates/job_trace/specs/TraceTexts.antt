@@ -6,11 +6,11 @@ use Rattle.complex_core.specs.Maps.{at, image}
 use Rattle.flip_names.specs.Names.{named_flip}
 use Rattle.flip_rules.specs.declared.flip.Flip.{Flip}
 use Rattle.flip_rules.specs.Entries.{JournalEntry}
-use Rattle.flip_world.specs.declared.event.Told.{Told}
-use Rattle.flip_world.specs.declared.event.Refused.{Refused}
-use Rattle.flip_world.specs.declared.event.Refused.TheVariants as refused
-use Rattle.flip_world.specs.Cores.{Core, complex_of}
-use Rattle.flip_world.specs.Runs.{Turn}
+use Rattle.core_laws.specs.declared.event.Told.{Told}
+use Rattle.core_laws.specs.declared.event.Refused.{Refused}
+use Rattle.core_laws.specs.declared.event.Refused.TheVariants as refused
+use Rattle.core_laws.specs.Cores.{Core, complex_of}
+use Rattle.core_laws.specs.Runs.{Turn}
 use Rattle.job_answer.specs.Lines.{complex_line, flip_line, reason_name}
 
 -- why an event was refused; the journal's place 0 has the name 0

@@ -3,13 +3,13 @@ use Rattle.std.specs.Prelude.{◌≡◌, true, false, ℕ, ◌+◌, ◌≤◌, B
 use Rattle.std.specs.List.{list_all, AllByRecursion}
 use Rattle.complex_core.specs.Maps.{at, turned, renamed, used, greatest}
 use Rattle.flip_rules.specs.declared.flip.Flip.{Flip}
-use Rattle.flip_world.specs.declared.event.Event.{Event}
-use Rattle.flip_world.specs.declared.event.Event.TheVariants as event
-use Rattle.flip_world.specs.declared.event.Told.{Told}
-use Rattle.flip_world.specs.declared.event.Refused.{Refused}
-use Rattle.flip_world.specs.Cores.{Core, opened}
-use Rattle.flip_world.specs.Runs.{Turn, IsRun}
-use Rattle.flip_world.specs.Serials.{Serial}
+use Rattle.core_laws.specs.declared.event.Event.{Event}
+use Rattle.core_laws.specs.declared.event.Event.TheVariants as event
+use Rattle.core_laws.specs.declared.event.Told.{Told}
+use Rattle.core_laws.specs.declared.event.Refused.{Refused}
+use Rattle.core_laws.specs.Cores.{Core, opened}
+use Rattle.core_laws.specs.Runs.{Turn, IsRun}
+use Rattle.core_laws.specs.Serials.{Serial}
 use Rattle.trace_text.specs.Traces.{Trace, names, IsTraceEvent}
 use Rattle.flip_names.specs.Names.{named_flip}
 use Rattle.job_trace.specs.TraceTexts.{trace_answer, history_lines}

@@ -5,7 +5,7 @@ ghost use Rattle.std.specs.Ordering.{nat_cmp};
 ghost use Rattle.complex_core.specs.Labels.{IsFace};
 ghost use Rattle.complex_core.specs.Rising.{rising};
 ghost use Rattle.complex_core.specs.Maps.{at, takes, face_image, turned};
-ghost use Rattle.flip_world.specs.Runs.{IsEvent};
+ghost use Rattle.core_laws.specs.Runs.{IsEvent};
 ghost use Rattle.flip_names.specs.Names.{named_flip};
 ghost use Rattle.job_trace.specs.Traced.{placed};
 ghost use Rattle.job_trace.specs.TraceRuns.{HasPlaces};
@@ -13,7 +13,7 @@ ghost use Rattle.job_trace.specs.TraceRuns.{HasPlaces};
 use complex_core::VertexMap;
 use flip_names::named_flip;
 use flip_rules::Flip;
-use flip_world::Event;
+use core_laws::Event;
 use std::alloc::{AllocError, Global};
 
 /// What a map makes of a label, or 0.

@@ -2,7 +2,7 @@
 ghost use Rattle.std.specs.Prelude.{◌≡◌, ◌++◌, ℕ, true, length, Err, OnOk, IfOk, string_bytes};
 ghost use Rattle.std.specs.List.{flat_map, list_all};
 ghost use Rattle.complex_core.specs.Maps.{takes_all};
-ghost use Rattle.flip_world.specs.Cores.{complex_of};
+ghost use Rattle.core_laws.specs.Cores.{complex_of};
 ghost use Rattle.job_answer.specs.Lines.{flip_line};
 ghost use Rattle.flip_names.specs.Names.{named_flip};
 ghost use Rattle.job_trace.specs.TraceTexts.{refusal_text, answer_line, pending_line, pending_lines, entry_lines, journal_lines, history_lines, verdict_line};
@@ -12,7 +12,8 @@ ghost use Rattle.job_trace.specs.TraceRuns.{entry_line};
 use crate::place::{number_at, numbers_at};
 use complex_core::VertexMap;
 use flip_rules::{Entry, Flip, Journal};
-use flip_world::{Refused, World};
+use core_laws::Refused;
+use flip_world::World;
 use job_answer::{reason_name, write_complex_line, write_sides_line};
 use std::alloc::{AllocError, Global};
 

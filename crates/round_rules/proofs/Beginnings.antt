@@ -10,7 +10,7 @@ use Rattle.flip_rules.proofs.Replays.{replay_split}
 use Rattle.flip_rules.proofs.Journals.{flat-append, touches-append, touches-cons, stars_exist, star_stays}
 use Rattle.star_laws.specs.Stars.{Rises, flips_touch}
 use Rattle.star_laws.proofs.ReplayStars.{others_replay}
-use Rattle.flip_world.proofs.Replays.{rises_replay}
+use Rattle.core_laws.proofs.Replays.{rises_replay}
 
 -- where no entry touches the place, no flip of theirs does
 untouched_by : (e : JournalEntry) (es : List JournalEntry) (place : ℕ) (b : Bool) → entry_touches place e ≡ b → cond b 1 0 + touches es place ≡ 0 → (touches es place ≡ 0 → flips_touch place (flat es) ≡ false) → (b || flips_touch place (flat es)) ≡ false

@@ -4,9 +4,9 @@ use Rattle.std.specs.Str.{bytes_eq}
 use Rattle.std.specs.Str.Parse.{digits_value}
 use Rattle.facet_text.specs.Lines.{Item, line_end, word}
 use Rattle.facet_text.specs.Tokens.{between}
-use Rattle.flip_world.specs.declared.event.Event.{Event}
-use Rattle.flip_world.specs.declared.event.Event.TheVariants as event
-use Rattle.flip_world.specs.Steps.{worker_of}
+use Rattle.core_laws.specs.declared.event.Event.{Event}
+use Rattle.core_laws.specs.declared.event.Event.TheVariants as event
+use Rattle.core_laws.specs.Steps.{worker_of}
 use Rattle.line_text.specs.Flips.{flip_at}
 use Rattle.line_text.specs.Numbers.{end_at, is_number, line_start}
 use Rattle.trace_text.specs.declared.fault.TraceFault.{TraceFault}

@@ -9,7 +9,7 @@ use Rattle.complex_core.proofs.Faces.{face_put, none_is_face, with_new}
 use Rattle.complex_core.proofs.Sets.{each_put}
 use Rattle.facet_text.specs.Lines.{Item, line_end, word}
 use Rattle.flip_rules.specs.declared.flip.Flip.{Flip}
-use Rattle.flip_world.specs.declared.event.Event.{Event}
+use Rattle.core_laws.specs.declared.event.Event.{Event}
 use Rattle.line_text.specs.declared.label.Labels.{Labels}
 use Rattle.line_text.specs.Flips.{Reading, first_from, flip_at, is_bar, label_then, second_from, side_then}
 use Rattle.line_text.specs.Labels.{allows}

@@ -13,8 +13,8 @@ use Rattle.complex_core.proofs.Sets.{each_rising}
 use Rattle.complex_core.proofs.Sorting.{each_append}
 use Rattle.facet_text.specs.Lines.{Item, line_end, word}
 use Rattle.facet_text.specs.Writing.{KeepsLimits}
-use Rattle.flip_world.specs.declared.event.Event.{Event}
-use Rattle.flip_world.specs.declared.event.Event.TheVariants as event
+use Rattle.core_laws.specs.declared.event.Event.{Event}
+use Rattle.core_laws.specs.declared.event.Event.TheVariants as event
 use Rattle.line_text.specs.Labels.{allows}
 use Rattle.trace_text.specs.Grammar.{count_from, event_on, events_from, events_past, is_place, labels_of, places_in, stated}
 use Rattle.trace_text.specs.Outcomes.{KeepsTraceLimits}

@@ -9,8 +9,8 @@ use Rattle.facet_text.specs.declared.fault.TextFault.{TextFault}
 use Rattle.facet_text.specs.Grammar.{complex_at}
 use Rattle.facet_text.specs.Lines.{Item, items, line_end, word}
 use Rattle.facet_text.specs.Tokens.{between}
-use Rattle.flip_world.specs.declared.event.Event.{Event}
-use Rattle.flip_world.specs.declared.event.Event.TheVariants as event
+use Rattle.core_laws.specs.declared.event.Event.{Event}
+use Rattle.core_laws.specs.declared.event.Event.TheVariants as event
 use Rattle.line_text.specs.declared.fault.LineFault.{LineFault}
 use Rattle.line_text.specs.declared.fault.LineFault.TheVariants as line_fault
 use Rattle.line_text.specs.declared.label.Labels.{Labels}

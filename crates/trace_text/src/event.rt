@@ -3,7 +3,7 @@
 ghost use Rattle.std.specs.Prelude.{◌≡◌, ◌++◌, ◌<◌, ◌≤◌, ℕ, List, [], IfOk, MatchResult, Ok, Err, codes, length};
 ghost use Rattle.std.specs.Str.{bytes_eq};
 ghost use Rattle.facet_text.specs.Lines.{items};
-ghost use Rattle.flip_world.specs.declared.event.Event.{Event as Asked};
+ghost use Rattle.core_laws.specs.declared.event.Event.{Event as Asked};
 ghost use Rattle.line_text.specs.Flips.{flip_at};
 ghost use Rattle.trace_text.specs.Grammar.{event_on, events_from, in_line, labels_of, of_flip, of_place, of_worker};
 ghost use Rattle.trace_text.specs.Outcomes.{Fails};
@@ -13,7 +13,7 @@ use crate::part::{count_here, place_here};
 use complex_core::VertexMap;
 use facet_text::Word;
 use flip_rules::Flip;
-use flip_world::Event;
+use core_laws::Event;
 use line_text::{Labels, end_here, first_word, read_flip};
 use std::alloc::Global;
 

@@ -1,7 +1,7 @@
 //! Traces.
 
 use complex_core::Complex;
-use flip_world::Event;
+use core_laws::Event;
 use std::marker::Model;
 
 /// A trace: a complex, how many workers and spare labels there are, and events in the labels of

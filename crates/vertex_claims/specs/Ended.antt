@@ -7,7 +7,7 @@ use Rattle.complex_core.specs.Complexes.{ComplexView}
 use Rattle.flip_rules.specs.Flips.{replay}
 use Rattle.flip_rules.specs.Entries.{JournalEntry}
 use Rattle.flip_rules.specs.Journals.{flat, mine}
-use Rattle.flip_world.specs.Serials.{Serial}
+use Rattle.core_laws.specs.Serials.{Serial}
 use Rattle.stars.specs.StarViews.{StarList, places_in, IsStarListOf}
 use Rattle.board_rule.specs.Tries.{wins}
 use Rattle.board_rule.specs.Rule.{core_of, IsEntry, Names, Noted, Marked, Blames}

@@ -1,4 +1,4 @@
-use Rattle.flip_world.specs.Cores.{after}
+use Rattle.core_laws.specs.Cores.{after}
 use Rattle.flip_world.proofs.Drafts.{draft_near}
 use Rattle.flip_world.proofs.judge.judged.Goals as goal
 

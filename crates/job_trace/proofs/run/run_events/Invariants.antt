@@ -1,5 +1,5 @@
 use Rattle.std.proofs.Common.{take, string_bytes}
-use Rattle.flip_world.specs.Cores.{IsWithin}
+use Rattle.core_laws.specs.Cores.{IsWithin}
 use Rattle.job_trace.specs.TraceRuns.{HasRun}
 use Rattle.job_trace.proofs.run.run_events.Given as goal
 

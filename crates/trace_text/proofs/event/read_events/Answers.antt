@@ -1,7 +1,7 @@
 use Rattle.std.proofs.Common.{arith, ◌∙◌, sym, ap, List}
 use Rattle.std.specs.Prelude.{length}
 use Rattle.std.proofs.lemmas.Result.{err_from_is_err_and}
-use Rattle.flip_world.specs.declared.event.Event.{Event}
+use Rattle.core_laws.specs.declared.event.Event.{Event}
 use Rattle.facet_text.specs.Lines.{items}
 use Rattle.trace_text.specs.Grammar.{events_from}
 use Rattle.trace_text.proofs.Events.{bad_line, fails, no_line, one_line}

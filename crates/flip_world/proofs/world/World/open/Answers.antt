@@ -1,5 +1,5 @@
 use Rattle.std.proofs.Common.{rules}
-use Rattle.flip_world.proofs.Growth.{opened_within}
+use Rattle.core_laws.proofs.Growth.{opened_within}
 use Rattle.flip_world.proofs.world.World.open.Goals as goal
 
 pub returns-clause-within : goal.returns-clause-within

@@ -1,4 +1,4 @@
-use Rattle.flip_world.proofs.Growth.{step_grows}
+use Rattle.core_laws.proofs.Growth.{step_grows}
 use Rattle.flip_world.proofs.world.World.step.Goals as goal
 
 pub returns-clause-grows : goal.returns-clause-grows

@@ -11,7 +11,7 @@ use Rattle.flip_rules.specs.declared.flip.Flip.{Flip}
 use Rattle.star_laws.specs.Stars.{Rises, EndAlikeOn, flips_touch}
 use Rattle.star_laws.proofs.FlipStars.{rises_flipped}
 use Rattle.flip_rules.proofs.Replays.{first_flip}
-use Rattle.flip_world.specs.Cores.{after}
+use Rattle.core_laws.specs.Cores.{after}
 
 pub some_same : (k m : ComplexView) → Some k ≡ Some m → k ≡ m
 some_same k m e = cc

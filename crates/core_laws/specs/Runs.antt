@@ -3,13 +3,13 @@ use Rattle.std.specs.Prelude.{◌≡◌, ℕ, List, [], ◌∷◌, map, Result}
 use Rattle.std.specs.List.{AllByRecursion}
 use Rattle.complex_core.specs.Labels.{IsFace}
 use Rattle.complex_core.specs.Complexes.{ComplexView, IsComplex}
-use Rattle.flip_world.specs.declared.event.Event.{Event}
-use Rattle.flip_world.specs.declared.event.Event.TheVariants as event
-use Rattle.flip_world.specs.declared.event.Told.{Told}
-use Rattle.flip_world.specs.declared.event.Refused.{Refused}
-use Rattle.flip_world.specs.Cores.{Core, opened, complex_of}
-use Rattle.flip_world.specs.Steps.{Step}
-use Rattle.flip_world.specs.Serials.{Serial}
+use Rattle.core_laws.specs.declared.event.Event.{Event}
+use Rattle.core_laws.specs.declared.event.Event.TheVariants as event
+use Rattle.core_laws.specs.declared.event.Told.{Told}
+use Rattle.core_laws.specs.declared.event.Refused.{Refused}
+use Rattle.core_laws.specs.Cores.{Core, opened, complex_of}
+use Rattle.core_laws.specs.Steps.{Step}
+use Rattle.core_laws.specs.Serials.{Serial}
 
 -- the two sides of a flip are faces
 abbrev pub IsEvent : Event → Type 0

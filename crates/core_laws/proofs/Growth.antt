@@ -5,14 +5,14 @@ use Rattle.std.proofs.Math.ListN.{get_or-eq_default}
 use Rattle.std.proofs.lemmas.Bool.{cases_lt}
 use Rattle.complex_core.specs.Complexes.{ComplexView}
 use Rattle.flip_rules.specs.declared.flip.Flip.{Flip}
-use Rattle.flip_world.specs.declared.event.Event.{Event}
-use Rattle.flip_world.specs.declared.event.Event.TheVariants as event
-use Rattle.flip_world.specs.declared.event.Told.{Told}
-use Rattle.flip_world.specs.declared.event.Told.TheVariants.{Claimed, AlreadyHeld, Flipped, RolledBack, Committed, Released}
-use Rattle.flip_world.specs.declared.event.StepFault.{StepFault}
-use Rattle.flip_world.specs.Cores.{Core, IsWorker, IsWithin, opened, pending_of, with_pending}
-use Rattle.flip_world.specs.Steps.{Step, next_entry}
-use Rattle.flip_world.proofs.Rows.{same_or_not}
+use Rattle.core_laws.specs.declared.event.Event.{Event}
+use Rattle.core_laws.specs.declared.event.Event.TheVariants as event
+use Rattle.core_laws.specs.declared.event.Told.{Told}
+use Rattle.core_laws.specs.declared.event.Told.TheVariants.{Claimed, AlreadyHeld, Flipped, RolledBack, Committed, Released}
+use Rattle.core_laws.specs.declared.event.StepFault.{StepFault}
+use Rattle.core_laws.specs.Cores.{Core, IsWorker, IsWithin, opened, pending_of, with_pending}
+use Rattle.core_laws.specs.Steps.{Step, next_entry}
+use Rattle.core_laws.proofs.Rows.{same_or_not}
 
 abbrev Grown : ℕ → Core → Core → Type 0
 Grown count c next = IsWithin (count + 1) next

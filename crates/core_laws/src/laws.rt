@@ -1,4 +1,4 @@
-ghost use Rattle.flip_world.specs.Runs.{RunsAreSerial, RollbacksLeaveNoTrace, StepIsOne, RunsAreOne};
+ghost use Rattle.core_laws.specs.Runs.{RunsAreSerial, RollbacksLeaveNoTrace, StepIsOne, RunsAreOne};
 
 /// From an opened world, over every list of events of any workers, the world is serial after each.
 pub fn runs_are_serial()

@@ -5,15 +5,15 @@ use Rattle.flip_rules.specs.Entries.{JournalEntry}
 use Rattle.flip_rules.specs.Journals.{flip_touches}
 use Rattle.flip_rules.specs.declared.flip.Flip.{Flip}
 use Rattle.flip_rules.specs.declared.flip.Illegal.TheVariants.{Shape}
-use Rattle.flip_world.specs.declared.event.Event.{Event}
-use Rattle.flip_world.specs.declared.event.Event.TheVariants as event
-use Rattle.flip_world.specs.declared.event.Told.{Told}
-use Rattle.flip_world.specs.declared.event.Told.TheVariants.{Claimed, AlreadyHeld, Flipped, RolledBack, Committed, Released}
-use Rattle.flip_world.specs.declared.event.Refused.{Refused}
-use Rattle.flip_world.specs.declared.event.Refused.TheVariants as refused
-use Rattle.flip_world.specs.declared.event.StepFault.{StepFault}
-use Rattle.flip_world.specs.declared.event.StepFault.TheVariants as fault
-use Rattle.flip_world.specs.Cores.{Core, IsWorker, places_of, owner_of, pending_of, with_owner, with_pending, seen_by, of_worker}
+use Rattle.core_laws.specs.declared.event.Event.{Event}
+use Rattle.core_laws.specs.declared.event.Event.TheVariants as event
+use Rattle.core_laws.specs.declared.event.Told.{Told}
+use Rattle.core_laws.specs.declared.event.Told.TheVariants.{Claimed, AlreadyHeld, Flipped, RolledBack, Committed, Released}
+use Rattle.core_laws.specs.declared.event.Refused.{Refused}
+use Rattle.core_laws.specs.declared.event.Refused.TheVariants as refused
+use Rattle.core_laws.specs.declared.event.StepFault.{StepFault}
+use Rattle.core_laws.specs.declared.event.StepFault.TheVariants as fault
+use Rattle.core_laws.specs.Cores.{Core, IsWorker, places_of, owner_of, pending_of, with_owner, with_pending, seen_by, of_worker}
 
 -- ---- the labels of a flip
 

@@ -4,7 +4,7 @@ use Rattle.flip_rules.specs.Flips.{replay}
 use Rattle.flip_rules.specs.Entries.{JournalEntry}
 use Rattle.flip_rules.specs.Journals.{flat}
 use Rattle.star_laws.specs.Stars.{flips_touch}
-use Rattle.flip_world.specs.Cores.{Core, IsWorker, places_of, owner_of, pending_of, complex_of, of_worker}
+use Rattle.core_laws.specs.Cores.{Core, IsWorker, places_of, owner_of, pending_of, complex_of, of_worker}
 
 -- the place is a label's, and the worker owns it
 pub record OwnsLabel (c : Core) (worker place : ℕ) : Type 0 where

@@ -1,7 +1,7 @@
 // Events, and what they are answered.
 ghost use Rattle.std.specs.Prelude.{◌≡◌};
-ghost use Rattle.flip_world.specs.Steps.{worker_of};
-ghost use Rattle.flip_world.specs.declared.event.StepFault.TheVariants as fault;
+ghost use Rattle.core_laws.specs.Steps.{worker_of};
+ghost use Rattle.core_laws.specs.declared.event.StepFault.TheVariants as fault;
 
 use flip_rules::{Flip, Illegal};
 use std::alloc::AllocError;

@@ -7,17 +7,17 @@ use Rattle.std.proofs.lemmas.Bool.{true≢false}
 use Rattle.complex_core.specs.Labels.{IsFace}
 use Rattle.complex_core.specs.Complexes.{ComplexView}
 use Rattle.flip_rules.specs.declared.flip.Flip.{Flip}
-use Rattle.flip_world.specs.declared.event.Event.{Event}
-use Rattle.flip_world.specs.declared.event.Event.TheVariants as event
-use Rattle.flip_world.specs.declared.event.Told.{Told}
-use Rattle.flip_world.specs.declared.event.Told.TheVariants.{Claimed, AlreadyHeld, Flipped, RolledBack, Committed, Released}
-use Rattle.flip_world.specs.declared.event.Refused.{Refused}
+use Rattle.core_laws.specs.declared.event.Event.{Event}
+use Rattle.core_laws.specs.declared.event.Event.TheVariants as event
+use Rattle.core_laws.specs.declared.event.Told.{Told}
+use Rattle.core_laws.specs.declared.event.Told.TheVariants.{Claimed, AlreadyHeld, Flipped, RolledBack, Committed, Released}
+use Rattle.core_laws.specs.declared.event.Refused.{Refused}
 use Rattle.star_laws.specs.Stars.{Rises, flips_touch}
-use Rattle.flip_world.specs.Cores.{Core, IsWorker, pending_of, opened}
-use Rattle.flip_world.specs.Steps.{Step, ClaimTold, FlipTold, RollbackTold, CommitTold, ReleaseTold}
-use Rattle.flip_world.specs.Serials.{Serial}
-use Rattle.flip_world.specs.Runs.{IsEvent, Turn, IsRun, RunsAreSerial}
-use Rattle.flip_world.proofs.Rows.{claim_keeps, release_keeps, rollback_keeps, flip_keeps, commit_keeps}
+use Rattle.core_laws.specs.Cores.{Core, IsWorker, pending_of, opened}
+use Rattle.core_laws.specs.Steps.{Step, ClaimTold, FlipTold, RollbackTold, CommitTold, ReleaseTold}
+use Rattle.core_laws.specs.Serials.{Serial}
+use Rattle.core_laws.specs.Runs.{IsEvent, Turn, IsRun, RunsAreSerial}
+use Rattle.core_laws.proofs.Rows.{claim_keeps, release_keeps, rollback_keeps, flip_keeps, commit_keeps}
 
 abbrev Next : Core → Core → Type 0
 Next c next = Serial next × (next.start ≡ c.start)

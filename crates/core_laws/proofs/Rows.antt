@@ -13,10 +13,10 @@ use Rattle.flip_rules.specs.Journals.{flip_touches, flat}
 use Rattle.flip_rules.specs.declared.flip.Flip.{Flip}
 use Rattle.star_laws.specs.Stars.{Rises, AlikeOn, flips_touch}
 use Rattle.star_laws.proofs.ReplayStars.{replay_alike, others_replay}
-use Rattle.flip_world.specs.Cores.{Core, IsWorker, places_of, owner_of, pending_of, with_owner, with_pending, complex_of, seen_by, of_worker}
-use Rattle.flip_world.specs.Steps.{EachLabel, is_place, is_owned, next_entry, committed}
-use Rattle.flip_world.specs.Serials.{Serial, OwnsLabel, numbers_from}
-use Rattle.flip_world.proofs.Replays.{replay_end, some_replay, after_is, flat_push, touch-append, rises_replay, other_end}
+use Rattle.core_laws.specs.Cores.{Core, IsWorker, places_of, owner_of, pending_of, with_owner, with_pending, complex_of, seen_by, of_worker}
+use Rattle.core_laws.specs.Steps.{EachLabel, is_place, is_owned, next_entry, committed}
+use Rattle.core_laws.specs.Serials.{Serial, OwnsLabel, numbers_from}
+use Rattle.core_laws.proofs.Replays.{replay_end, some_replay, after_is, flat_push, touch-append, rises_replay, other_end}
 use Rattle.flip_rules.proofs.Replays.{replay-append, replay_then, replay_dim}
 use Rattle.complex_core.proofs.Members.{label_low}
 

@@ -6,16 +6,16 @@ use Rattle.flip_rules.specs.Flips.{broken_rule}
 use Rattle.flip_rules.specs.declared.flip.Flip.{Flip}
 use Rattle.flip_rules.specs.declared.flip.Illegal.{Illegal}
 use Rattle.flip_rules.specs.declared.flip.Illegal.TheVariants.{Shape, NotAFace, LinkDiffers, BIsFace}
-use Rattle.flip_world.specs.declared.event.Event.{Event}
-use Rattle.flip_world.specs.declared.event.Event.TheVariants as event
-use Rattle.flip_world.specs.declared.event.Told.{Told}
-use Rattle.flip_world.specs.declared.event.Told.TheVariants.{Claimed, AlreadyHeld, Flipped, RolledBack, Committed, Released}
-use Rattle.flip_world.specs.declared.event.Refused.{Refused}
-use Rattle.flip_world.specs.declared.event.Refused.TheVariants as refused
-use Rattle.flip_world.specs.Cores.{Core, IsWorker, places_of, owner_of, pending_of, with_owner, with_pending, seen_by, of_worker}
-use Rattle.flip_world.specs.Steps.{EachLabel, IsLeastFailing, is_place, is_owned, FlipHeld, ClaimTold, ClaimRefused, FlipTold, FlipRefused, RollbackTold, CommitTold, CommitRefused, ReleaseTold, ReleaseRefused, committed, worker_of, RowTells, RowRefuses, Step}
-use Rattle.flip_world.specs.Runs.{Turn, IsRun, StepIsOne, RunsAreOne}
-use Rattle.flip_world.proofs.Rows.{same_or_not}
+use Rattle.core_laws.specs.declared.event.Event.{Event}
+use Rattle.core_laws.specs.declared.event.Event.TheVariants as event
+use Rattle.core_laws.specs.declared.event.Told.{Told}
+use Rattle.core_laws.specs.declared.event.Told.TheVariants.{Claimed, AlreadyHeld, Flipped, RolledBack, Committed, Released}
+use Rattle.core_laws.specs.declared.event.Refused.{Refused}
+use Rattle.core_laws.specs.declared.event.Refused.TheVariants as refused
+use Rattle.core_laws.specs.Cores.{Core, IsWorker, places_of, owner_of, pending_of, with_owner, with_pending, seen_by, of_worker}
+use Rattle.core_laws.specs.Steps.{EachLabel, IsLeastFailing, is_place, is_owned, FlipHeld, ClaimTold, ClaimRefused, FlipTold, FlipRefused, RollbackTold, CommitTold, CommitRefused, ReleaseTold, ReleaseRefused, committed, worker_of, RowTells, RowRefuses, Step}
+use Rattle.core_laws.specs.Runs.{Turn, IsRun, StepIsOne, RunsAreOne}
+use Rattle.core_laws.proofs.Rows.{same_or_not}
 
 -- the answer, and the core after it
 abbrev Outcome : Type 0

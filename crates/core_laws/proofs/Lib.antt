@@ -1,0 +1,5 @@
+pub mod Replays
+pub mod Rows
+pub mod Runs
+pub mod Growth
+pub mod OneStep
