@@ -43,13 +43,13 @@ none_added : (was now : List JournalEntry) (a : Tried) → now ≡ was → entri
 none_added was now a same none numbers = record { more = []; longer = same ∙ sym (append-nil was); count = none; numbers = numbers; next = let P : List ℕ → Type 0 = λ l. CountFrom (length was) l in subst P (sym numbers) (count_none (length was)) }
 
 adds_row : (task : Task) (round w : ℕ) (t : Try) (was now : List JournalEntry) (flips : List Flip) (a : Tried) → OwnRow task round w t was now flips a → Adds was now a
-adds_row task round w t was now flips (Committed n) o = record { more = record { round = round; worker = w; seq = n; flips = flips } ∷ []; longer = o.entry; count = refl; numbers = refl; next = count_one (length was) n o.number }
-adds_row task round w t was now flips (Busy q p) o = none_added was now (Busy q p) o.1 refl refl
+adds_row task round w t was now flips (Committed n) o = record { more = record { round = round; worker = w; seq = n; flips = flips } ∷ []; longer = o.0.entered.entry; count = refl; numbers = refl; next = count_one (length was) n o.0.entered.number }
+adds_row task round w t was now flips (Busy q p) o = none_added was now (Busy q p) o.2 refl refl
 adds_row task round w t was now flips Nothing o = none_added was now Nothing o.2 refl refl
-adds_row task round w t was now flips (Blocked f) o = none_added was now (Blocked f) o.1 refl refl
-adds_row task round w t was now flips (Declined c) o = none_added was now (Declined c) o.1 refl refl
-adds_row task round w t was now flips Quit o = none_added was now Quit o refl refl
-adds_row task round w t was now flips NoMemory o = none_added was now NoMemory o.1 refl refl
+adds_row task round w t was now flips (Blocked f) o = none_added was now (Blocked f) o.2 refl refl
+adds_row task round w t was now flips (Declined c) o = none_added was now (Declined c) o.2 refl refl
+adds_row task round w t was now flips Quit o = none_added was now Quit o.2 refl refl
+adds_row task round w t was now flips NoMemory o = none_added was now NoMemory o.2 refl refl
 
 adds : (task : Task) (round w : ℕ) (t : Try) (was now : List JournalEntry) (a : Tried) (b : Bool) → t.won ≡ b → OwnTry task round w t was now a → Adds was now a
 adds task round w t was now a true is o = let r = o.won is in adds_row task round w t was now (turns_of task r.home.star) a r.row

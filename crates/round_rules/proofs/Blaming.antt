@@ -28,7 +28,7 @@ has_of : (task : Task) (round w : ℕ) (c : MainView) (t : Try) (was now : List 
 has_of task round w c t was now a true won blames own q o is low =
     let r = own.won won in
     let b = busy_own task round w t was now (turns_of task r.home.star) a q o is r.row in
-    won_moved c t.owner o t.last q b.owner b.last (blames.last (let e = b.last in omega (arith, e, low)))
+    won_moved c t.owner o t.last q b.0.owner b.0.last (blames.last (let e : t.last ≡ q = b.0.last in omega (arith, e, low)))
 has_of task round w c t was now a false lost blames own q o is low =
     let e = sym (own.lost lost).0 ∙ is in
     won_moved c t.found o t.place q (same_owner t.place t.found q o e) (same_place t.place t.found q o e) (blames.lost lost)

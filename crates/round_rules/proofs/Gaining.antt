@@ -35,14 +35,14 @@ Gains d e = changes d e.flips ≤ℤ pos d
 
 gains_row : (task : Task) (d round w : ℕ) (t : Try) (was now : List JournalEntry) (flips : List Flip) (a : Tried) → task.dim ≡ d → AllByRecursion (Gains d) was → OwnRow task round w t was now flips a → AllByRecursion (Gains d) now
 gains_row task d round w t was now flips (Committed n) is h o =
-    let most : changes task.dim flips ≤ℤ pos task.dim = through (changes task.dim flips) (allowed_of task.dim task.phase) (pos task.dim) o.allowed (allowed_most task.dim task.phase) in
-    subst (AllByRecursion (Gains d)) (sym o.entry) (each_append (Gains d) was (record { round = round; worker = w; seq = n; flips = flips } ∷ []) h (subst (λ (x : ℕ). changes x flips ≤ℤ pos x) is most, tt))
-gains_row task d round w t was now flips (Busy q p) is h o = subst (AllByRecursion (Gains d)) (sym o.1) h
+    let most : changes task.dim flips ≤ℤ pos task.dim = through (changes task.dim flips) (allowed_of task.dim task.phase) (pos task.dim) o.0.allowed (allowed_most task.dim task.phase) in
+    subst (AllByRecursion (Gains d)) (sym o.0.entered.entry) (each_append (Gains d) was (record { round = round; worker = w; seq = n; flips = flips } ∷ []) h (subst (λ (x : ℕ). changes x flips ≤ℤ pos x) is most, tt))
+gains_row task d round w t was now flips (Busy q p) is h o = subst (AllByRecursion (Gains d)) (sym o.2) h
 gains_row task d round w t was now flips Nothing is h o = subst (AllByRecursion (Gains d)) (sym o.2) h
-gains_row task d round w t was now flips (Blocked f) is h o = subst (AllByRecursion (Gains d)) (sym o.1) h
-gains_row task d round w t was now flips (Declined c) is h o = subst (AllByRecursion (Gains d)) (sym o.1) h
-gains_row task d round w t was now flips Quit is h o = subst (AllByRecursion (Gains d)) (sym o) h
-gains_row task d round w t was now flips NoMemory is h o = subst (AllByRecursion (Gains d)) (sym o.1) h
+gains_row task d round w t was now flips (Blocked f) is h o = subst (AllByRecursion (Gains d)) (sym o.2) h
+gains_row task d round w t was now flips (Declined c) is h o = subst (AllByRecursion (Gains d)) (sym o.2) h
+gains_row task d round w t was now flips Quit is h o = subst (AllByRecursion (Gains d)) (sym o.2) h
+gains_row task d round w t was now flips NoMemory is h o = subst (AllByRecursion (Gains d)) (sym o.2) h
 
 gains_try : (task : Task) (d round w : ℕ) (t : Try) (was now : List JournalEntry) (a : Tried) (b : Bool) → t.won ≡ b → task.dim ≡ d → AllByRecursion (Gains d) was → OwnTry task round w t was now a → AllByRecursion (Gains d) now
 gains_try task d round w t was now a true won is h o = let r = o.won won in gains_row task d round w t was now (turns_of task r.home.star) a is h r.row

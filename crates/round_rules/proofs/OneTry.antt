@@ -10,7 +10,8 @@ use Rattle.board_rule.specs.Rule.{Names, IsOther as IsOtherSeat}
 use Rattle.board_rule.specs.Tries.{Try, last_with}
 use Rattle.vertex_claims.specs.Marks.{mark_of}
 use Rattle.vertex_claims.specs.declared.mark.Found.TheVariants.{Won, Lost}
-use Rattle.round_rules.specs.Own.{BusyOwn, OwnRow, OwnTry}
+use Rattle.round_rules.specs.Rows.{BusyRow}
+use Rattle.round_rules.specs.Own.{ReplaysOn, OwnRow, OwnTry}
 use Rattle.round_rules.specs.Outcomes.{Judges, IsOther, Outcome}
 use Rattle.round_rules.specs.Tasks.{Scene, Task, turns_of}
 use Rattle.round_rules.specs.declared.tried.Tried.{Tried}
@@ -28,8 +29,8 @@ same_owner q o p e h = cc
 other_of : (s : Scene) (w o e seats : ℕ) → seats ≡ s.plan.workers + 1 → o ≡ e → IsOtherSeat seats w o → IsOther s w e
 other_of s w o e seats long is h = let P : ℕ → Type 0 = λ n. IsOther s w n in subst P is record { low = h.0; high = let b = h.1 in omega (arith, b, long); other = h.2 }
 
-pub busy_own : (task : Task) (round w : ℕ) (t : Try) (was now : List JournalEntry) (flips : List Flip) (a : Tried) (q o : ℕ) → a ≡ Busy q o → OwnRow task round w t was now flips a → BusyOwn task w t q o flips
-busy_own task round w t was now flips a q o is row = (subst (OwnRow task round w t was now flips) is row).0
+pub busy_own : (task : Task) (round w : ℕ) (t : Try) (was now : List JournalEntry) (flips : List Flip) (a : Tried) (q o : ℕ) → a ≡ Busy q o → OwnRow task round w t was now flips a → BusyRow (ReplaysOn task.dim t.note) task (mark_of t) q o flips × IsRefused w o
+busy_own task round w t was now flips a q o is row = let r : OwnRow task round w t was now flips (Busy q o) = subst (OwnRow task round w t was now flips) is row in (r.0, r.1)
 
 not_zero : (w o : ℕ) → IsRefused w o → 0 < o
 not_zero w o h = let n = h.0 in omega (arith, n)
@@ -38,7 +39,7 @@ pub busy_of : (s : Scene) (entries : List JournalEntry) (w seats : ℕ) (task : 
 busy_of s entries w seats task t was now a true won long names own q o is =
     let r = own.won won in
     let b = busy_own task s.round w t was now (turns_of task r.home.star) a q o is r.row in
-    other_of s w t.owner o seats long b.owner (names.owner (let e = b.owner in let n = not_zero w o b.other in omega (arith, e, n)))
+    other_of s w t.owner o seats long b.0.owner (names.owner (let e : t.owner ≡ o = b.0.owner in let n = not_zero w o b.1 in omega (arith, e, n)))
 busy_of s entries w seats task t was now a false lost long names own q o is =
     let l = own.lost lost in
     other_of s w t.found o seats long (same_owner t.place t.found q o (sym l.0 ∙ is)) (names.lost lost)

@@ -9,17 +9,18 @@ use Rattle.flip_rules.specs.Journals.{At}
 use Rattle.flip_rules.specs.declared.flip.Flip.{Flip}
 use Rattle.stars.specs.StarViews.{StarList, IsStarListOf, UsesUpTo}
 use Rattle.anneal_plan.specs.Proposals.{allowed_of}
+use Rattle.board_rule.specs.Tries.{Unrefused}
 use Rattle.board_rule.specs.declared.setup.Setup.{Setup}
 use Rattle.board_rule.specs.declared.kept.Kept.{Kept}
 use Rattle.board_rule.specs.declared.view.MainView.{MainView}
-use Rattle.board_rule.specs.Tries.{Unrefused}
 use Rattle.vertex_claims.specs.Ended.{IsEnd}
 use Rattle.vertex_claims.specs.MarkLists.{MarkList}
 use Rattle.vertex_claims.specs.Marks.{marks_of}
 use Rattle.vertex_claims.specs.declared.mark.Mark.{Mark}
 use Rattle.vertex_claims.specs.declared.mark.Found.TheVariants.{Won}
 use Rattle.round_rules.specs.Accounts.{OwnAll, Done}
-use Rattle.round_rules.specs.Outcomes.{Outcome, BlockedRow, star_at}
+use Rattle.round_rules.specs.Rows.{BlockedRow}
+use Rattle.round_rules.specs.Outcomes.{Outcome, BlockedAfter, star_at}
 use Rattle.round_rules.specs.Rounds.{RoundView, RoundOk}
 use Rattle.round_rules.specs.Tasks.{Scene, Task, task_at, turns_of, changes}
 use Rattle.round_rules.specs.declared.tried.Tried.{Tried}
@@ -71,5 +72,5 @@ TryCommits = (s : Scene) (entries : List JournalEntry) (w : ℕ) (task : Task) (
     Outcome s entries w task earlier m a → m.found ≡ Won version → At s.start entries m.place version rows → Unrefused m.vertices m.journal
     → turns_of task (star_at s m.place rows) ≢ []
     → changes task.dim (turns_of task (star_at s m.place rows)) ≤ℤ allowed_of task.dim task.phase
-    → ((f : Flip) → BlockedRow s entries w earlier version m f (turns_of task (star_at s m.place rows)) → ⊥)
+    → ((f : Flip) → BlockedRow (BlockedAfter s entries w earlier m.place version) m f (turns_of task (star_at s m.place rows)) → ⊥)
     → a ≢ Quit → ((n : ℕ) × (a ≡ Committed n)) ⊎ (a ≡ NoMemory)

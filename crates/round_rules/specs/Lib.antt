@@ -1,5 +1,6 @@
 -- What a try and a round may answer.
 pub mod Tasks
+pub mod Rows
 pub mod Own
 pub mod Accounts
 pub mod Outcomes

@@ -9,11 +9,11 @@ use Rattle.flip_rules.specs.declared.flip.Illegal.TheVariants.{BIsFace}
 use Rattle.star_laws.specs.Stars.{flips_touch}
 use Rattle.stars.specs.StarViews.{VertexStar}
 use Rattle.anneal_plan.specs.Proposals.{allowed_of}
-use Rattle.board_rule.specs.Tries.{Unrefused}
 use Rattle.vertex_claims.specs.declared.mark.Mark.{Mark}
 use Rattle.vertex_claims.specs.declared.mark.Found.{Found}
 use Rattle.vertex_claims.specs.declared.mark.Found.TheVariants.{Won, Lost}
-use Rattle.round_rules.specs.Tasks.{Task, Scene, place_of, turns_of, changes}
+use Rattle.round_rules.specs.Tasks.{Task, Scene, place_of, turns_of}
+use Rattle.round_rules.specs.Rows.{Row}
 use Rattle.round_rules.specs.declared.tried.Tried.{Tried}
 use Rattle.round_rules.specs.declared.tried.Tried.TheVariants.{Committed, Busy, Nothing, Blocked, Declined, Quit, NoMemory}
 
@@ -39,77 +39,24 @@ pub record LegalAfter (s : Scene) (entries : List JournalEntry) (w earlier p ver
   pub history : replay s.start (flat before) ≡ Some there
   pub replays : replay there flips ≡ Some end
 
--- ---- the rows of the answers
-
--- one later claim was refused, at another place, which is a label of the flips
-pub record VertexRefused (m : Mark) (q : ℕ) (flips : List Flip) : Type 0 where
-  pub other : q ≢ m.place
-  pub label : flips_touch q flips ≡ true
-  pub vertices : m.vertices ≡ 1
-  pub journal : m.journal ≡ 0
-
--- the flips might have been committed, but place 0 was refused 64 times
-pub record JournalRefused (s : Scene) (entries : List JournalEntry) (w : ℕ) (task : Task) (earlier version : ℕ) (m : Mark) (flips : List Flip) : Type 0 where
-  pub some : flips ≢ []
-  pub allowed : changes task.dim flips ≤ℤ allowed_of task.dim task.phase
-  pub legal : LegalAfter s entries w earlier m.place version flips
-  pub vertices : m.vertices ≡ 0
-  pub journal : m.journal ≡ 64
-
--- another worker had the place
-pub record BusyRow (s : Scene) (entries : List JournalEntry) (w : ℕ) (task : Task) (earlier version : ℕ) (m : Mark) (q o : ℕ) (flips : List Flip) : Type 0 where
-  pub last : m.last ≡ q
-  pub owner : m.owner ≡ o
-  pub vertex : 0 < q → VertexRefused m q flips
-  pub journal : q ≡ 0 → JournalRefused s entries w task earlier version m flips
-
--- the flips before one of them are legal, and then its B is a face
-pub record BlockedRow (s : Scene) (entries : List JournalEntry) (w earlier version : ℕ) (m : Mark) (f : Flip) (flips : List Flip) : Type 0 where
-  pub front : List Flip
-  pub rest : List Flip
-  pub member : flips ≡ front ++ f ∷ rest
-  pub legal : LegalAfter s entries w earlier m.place version front
+-- after such a beginning the flips are legal in order, and then B of the next one is a face
+pub record BlockedAfter (s : Scene) (entries : List JournalEntry) (w earlier p version : ℕ) (flips : List Flip) (f : Flip) : Type 0 where
+  pub legal : LegalAfter s entries w earlier p version flips
   pub face : broken_rule legal.end f.a f.b ≡ Err BIsFace
-  pub unrefused : Unrefused m.vertices m.journal
 
--- the flips are legal, and make too many facets
-pub record DeclinedRow (s : Scene) (entries : List JournalEntry) (w : ℕ) (task : Task) (earlier version : ℕ) (m : Mark) (c : ℤ) (flips : List Flip) : Type 0 where
-  pub some : flips ≢ []
-  pub legal : LegalAfter s entries w earlier m.place version flips
-  pub sum : c ≡ changes task.dim flips
-  pub above : allowed_of task.dim task.phase <ℤ c
-  pub unrefused : Unrefused m.vertices m.journal
-
--- the flips are an entry, and the journal before it is such a beginning
-pub record CommittedRow (s : Scene) (entries : List JournalEntry) (w : ℕ) (task : Task) (earlier version : ℕ) (m : Mark) (number : ℕ) (flips : List Flip) : Type 0 where
-  pub some : flips ≢ []
-  pub allowed : changes task.dim flips ≤ℤ allowed_of task.dim task.phase
+-- the flips are an entry with this number, and the journal before it is such a beginning
+pub record EntersAfter (s : Scene) (entries : List JournalEntry) (w earlier p version n : ℕ) (flips : List Flip) : Type 0 where
   pub before : List JournalEntry
   pub next : List JournalEntry
-  pub whole : entries ≡ before ++ (record { round = s.round; worker = w; seq = number; flips = flips } ∷ next)
-  pub beginning : Beginning s entries w earlier m.place version before
-  pub vertices : m.vertices ≡ 0
-  pub journal : m.journal < 64
+  pub whole : entries ≡ before ++ (record { round = s.round; worker = w; seq = n; flips = flips } ∷ next)
+  pub beginning : Beginning s entries w earlier p version before
 
--- memory was wanted for one of the flips, which is legal after those before it, or for their entry
-pub record WantedRow (s : Scene) (entries : List JournalEntry) (w earlier version : ℕ) (m : Mark) (flips : List Flip) : Type 0 where
-  pub front : List Flip
-  pub rest : List Flip
-  pub some : front ≢ []
-  pub first : flips ≡ front ++ rest
-  pub legal : LegalAfter s entries w earlier m.place version front
-  pub vertices : m.vertices ≡ 0
-  pub journal : m.journal < 64
+-- ---- what a try may answer
 
 -- the row of an answer, for the flips that the try proposes
-abbrev pub Row : Scene → List JournalEntry → ℕ → Task → ℕ → ℕ → Mark → List Flip → Tried → Type 0
-Row s entries w task earlier version m flips (Committed n) = CommittedRow s entries w task earlier version m n flips
-Row s entries w task earlier version m flips (Busy q o) = BusyRow s entries w task earlier version m q o flips
-Row s entries w task earlier version m flips Nothing = (flips ≡ []) × Unrefused m.vertices m.journal
-Row s entries w task earlier version m flips (Blocked f) = BlockedRow s entries w earlier version m f flips
-Row s entries w task earlier version m flips (Declined c) = DeclinedRow s entries w task earlier version m c flips
-Row s entries w task earlier version m flips Quit = ⊤
-Row s entries w task earlier version m flips NoMemory = WantedRow s entries w earlier version m flips
+abbrev pub RowAfter : Scene → List JournalEntry → ℕ → Task → ℕ → ℕ → Mark → List Flip → Tried → Type 0
+RowAfter s entries w task earlier version m =
+    Row (LegalAfter s entries w earlier m.place version) (BlockedAfter s entries w earlier m.place version) (EntersAfter s entries w earlier m.place version) task m
 
 -- the answer of a try without a flip
 abbrev pub Idle : Tried → Type 0
@@ -122,7 +69,7 @@ pub record WonRow (s : Scene) (entries : List JournalEntry) (w : ℕ) (task : Ta
   pub before : List JournalEntry
   pub beginning : Beginning s entries w earlier m.place version before
   pub idle : turns_of task (star_at s m.place rows) ≡ [] → Idle a
-  pub row : Row s entries w task earlier version m (turns_of task (star_at s m.place rows)) a
+  pub row : RowAfter s entries w task earlier version m (turns_of task (star_at s m.place rows)) a
 
 -- what it may answer, by what its first claim found
 abbrev pub Judges : Scene → List JournalEntry → ℕ → Task → ℕ → Mark → Tried → Found → Type 0

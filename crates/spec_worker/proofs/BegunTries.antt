@@ -22,7 +22,9 @@ use Rattle.vertex_claims.specs.Passes.{know, slot}
 use Rattle.vertex_claims.specs.declared.pass.Pass.{Pass}
 use Rattle.held_stars.specs.Holding.{StartedTry, Noting, Going, Made, IsKnown}
 use Rattle.held_stars.specs.declared.hold.Hold.{Hold}
-use Rattle.round_rules.specs.Own.{OwnTry, OwnRow, CommittedOwn}
+use Rattle.vertex_claims.specs.Marks.{mark_of}
+use Rattle.round_rules.specs.Rows.{CommittedRow}
+use Rattle.round_rules.specs.Own.{OwnTry, OwnRow, EntersNext}
 use Rattle.round_rules.specs.Tasks.{Task, turns_of}
 use Rattle.round_rules.specs.declared.tried.Tried.{Tried}
 use Rattle.round_rules.specs.declared.tried.Tried.TheVariants.{Committed, Busy, Nothing, Blocked, Declined, Quit, NoMemory}
@@ -136,13 +138,13 @@ begun task o a b h dim x k told empty known at is places flips copies lent =
 
 -- the row of an answer without an entry
 cause_row : (task : Task) (round : ℕ) (s : StartedTry) (t : Try) (was now : List JournalEntry) (answer : Tried) → Cause task s t answer → now ≡ was → OwnRow task round s.worker t was now s.flips answer
-cause_row task round s t was now (Committed n) cause same = absurd cause
-cause_row task round s t was now (Busy q o) cause same = (cause, same)
-cause_row task round s t was now Nothing cause same = (cause.0, cause.1, same)
-cause_row task round s t was now (Blocked f) cause same = (cause, same)
-cause_row task round s t was now (Declined c) cause same = (cause, same)
-cause_row task round s t was now Quit cause same = same
-cause_row task round s t was now NoMemory cause same = (cause, same)
+cause_row task round s t was now (Committed n) cause same = absurd cause.0.entered
+cause_row task round s t was now (Busy q o) cause same = (cause.0, cause.1, same)
+cause_row task round s t was now Nothing cause same = (cause.0, tt, same)
+cause_row task round s t was now (Blocked f) cause same = (cause.0, tt, same)
+cause_row task round s t was now (Declined c) cause same = (cause.0, tt, same)
+cause_row task round s t was now Quit cause same = (tt, tt, same)
+cause_row task round s t was now NoMemory cause same = (cause.0, tt, same)
 
 -- a try whose first claim was won, as the worker says it
 won_own : (task : Task) (round : ℕ) (s : StartedTry) (v : PassView) (t : Try) (now : List JournalEntry) (answer : Tried) → IsStartOf task s → Noting s v t → OwnRow task round s.worker t s.mine now s.flips answer → OwnTry task round s.worker t s.mine now answer
@@ -173,7 +175,7 @@ module _ (task : Task) (o : TryPlan) (a b c d : Pass) (h n : Hold) (dim round : 
   ended_own answer e = owned e.try_now answer e.noting (cause_row task round g.begun e.try_now g.begun.mine (know d).mine answer e.reason (mine ∙ e.mine))
 
   entered_own : (seq : ℕ) → Entered task round g.begun c n seq → Owns task round (know a) (know d) (Committed seq)
-  entered_own seq e = owned e.try_now (Committed seq) e.noting (subst (λ (now : List JournalEntry). CommittedOwn task round g.begun.worker e.try_now seq g.begun.mine now g.begun.flips) (sym mine) e.row)
+  entered_own seq e = owned e.try_now (Committed seq) e.noting (subst (λ (now : List JournalEntry). CommittedRow (EntersNext round g.begun.worker g.begun.mine now seq g.begun.flips) task (mark_of e.try_now) g.begun.flips) (sym mine) e.row, tt, tt)
 
   pub tried_own : (made : Result ℕ Tried) (answer : Tried) → IfOk made (Entered task round g.begun c n) → IfErr made (Ended task g.begun c n) → IfOk made (λ seq. answer ≡ Committed seq) × IfErr made (λ cause. answer ≡ cause) → Owns task round (know a) (know d) answer
   tried_own (Ok seq) answer entered ended is = subst (Owns task round (know a) (know d)) (sym is.0) (entered_own seq entered)

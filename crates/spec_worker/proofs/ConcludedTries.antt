@@ -210,14 +210,14 @@ pub ended_here : (task : Task) (s : StartedTry) (a : Pass) (h : Hold) (rest : Li
 ended_here task s a h rest answer t cause = ended task s a a h t.now [] answer t.going t.made (waits_of (know a) (know a) t.going.try_now [] s.earlier t.going.noting.tries refl) t.made.free (λ q _. refl) cause
 
 pub ended_quit : (task : Task) (s : StartedTry) (a : Pass) (h : Hold) (rest : List Flip) (answer : Tried) → answer ≡ Quit → Turned s a h rest → Ended task s a h answer
-ended_quit task s a h rest answer is t = subst (Ended task s a h) (sym is) (ended_here task s a h rest Quit t tt)
+ended_quit task s a h rest answer is t = subst (Ended task s a h) (sym is) (ended_here task s a h rest Quit t (tt, tt))
 
 -- all flips were made
 pub all_made : (s : StartedTry) (a : Pass) (h : Hold) → Turned s a h [] → s.flips ≡ h.flips.items
 all_made s a h t = t.whole ∙ append-nil h.flips.items
 
 pub none_made : (task : Task) (s : StartedTry) (a : Pass) (h : Hold) → h.flips.items ≡ [] → Turned s a h [] → Ended task s a h Nothing
-none_made task s a h empty t = ended_here task s a h [] Nothing t (all_made s a h t ∙ empty, t.going.fresh)
+none_made task s a h empty t = ended_here task s a h [] Nothing t ((all_made s a h t ∙ empty, t.going.fresh), tt)
 
 -- the flips replay on the noted stars
 pub replays_on : (task : Task) (s : StartedTry) (a : Pass) (h : Hold) (u : Try) (t : Turned s a h []) → IsStartOf task s → u.note ≡ t.going.try_now.note → ReplaysOn task.dim u.note s.flips
@@ -237,13 +237,13 @@ replays_on task s a h u t of same =
     }
 
 pub declined : (task : Task) (s : StartedTry) (a : Pass) (h : Hold) (c : ℤ) → h.flips.items ≢ [] → IsStartOf task s → Turned s a h [] → (c ≡ changes task.dim h.flips.items) × (allowed_of task.dim task.phase <ℤ c) → Ended task s a h (Declined c)
-declined task s a h c any of t over = ended_here task s a h [] (Declined c) t record {
+declined task s a h c any of t over = ended_here task s a h [] (Declined c) t (record {
   some = λ e. any (sym (all_made s a h t) ∙ e);
   legal = replays_on task s a h t.going.try_now t of refl;
   sum = over.0 ∙ ap (changes task.dim) (sym (all_made s a h t));
   above = over.1;
   unrefused = t.going.fresh;
-}
+}, tt)
 
 -- place 0 was refused each time
 pub refused : (task : Task) (s : StartedTry) (a b : Pass) (h : Hold) (os : List ℕ) (o : ℕ) → h.flips.items ≢ [] → IsStartOf task s → Turned s a h [] → changes task.dim h.flips.items ≤ℤ allowed_of task.dim task.phase
@@ -253,10 +253,9 @@ refused task s a b h os o any of t allowed count worker known slots =
     let u = waited old (o ∷ os) in
     let w : Waits (know a) (know b) old (o ∷ os) s.earlier = waits_of (know a) (know b) old (o ∷ os) s.earlier t.going.noting.tries known in
     let journal : u.journal ≡ 64 = waited_journal old (o ∷ os) t.going.fresh.1 (omega (arith, count)) ∙ (let e : suc (length os) ≡ 64 = omega (arith, count) in e) in
-    ended task s a b h t.now (o ∷ os) (Busy 0 o) t.going t.made w (ap (λ (h : PassView). h.has_journal) known ∙ (waits_journal (know a) (o ∷ os) ∙ t.made.free)) (λ q _. slots q) record {
+    ended task s a b h t.now (o ∷ os) (Busy 0 o) t.going t.made w (ap (λ (h : PassView). h.has_journal) known ∙ (waits_journal (know a) (o ∷ os) ∙ t.made.free)) (λ q _. slots q) (record {
       last = refl;
       owner = refl;
-      other = subst (λ (n : ℕ). IsRefused n o) t.going.noting.worker worker;
       vertex = λ low. absurd (omega (arith, low));
       journal = λ _. record {
         some = λ e. any (sym (all_made s a h t) ∙ e);
@@ -265,7 +264,7 @@ refused task s a b h os o any of t allowed count worker known slots =
         vertices = waited_vertices old (o ∷ os) ∙ t.going.fresh.0;
         journal = journal;
       };
-    }
+    }, subst (λ (n : ℕ). IsRefused n o) t.going.noting.worker worker)
 
 -- place 0 was won and is given back as it was
 pub left_behind : (task : Task) (s : StartedTry) (a b c : Pass) (h : Hold) (os : List ℕ) (entries : List JournalEntry) (answer : Tried) (t : Turned s a h []) → know b ≡ with_journal (waits (know a) os) entries → ((q : ℕ) → q ≢ 0 → slot b q ≡ slot a q)
@@ -278,22 +277,22 @@ left_behind task s a b c h os entries answer t won slots left puts cause =
 
 pub left_quit : (task : Task) (s : StartedTry) (a b c : Pass) (h : Hold) (os : List ℕ) (entries : List JournalEntry) (answer : Tried) → answer ≡ Quit → Turned s a h [] → know b ≡ with_journal (waits (know a) os) entries → ((q : ℕ) → q ≢ 0 → slot b q ≡ slot a q)
     → know c ≡ without_journal (know b) → Puts b c 0 none → Ended task s c h answer
-left_quit task s a b c h os entries answer is t won slots left puts = subst (Ended task s c h) (sym is) (left_behind task s a b c h os entries Quit t won slots left puts tt)
+left_quit task s a b c h os entries answer is t won slots left puts = subst (Ended task s c h) (sym is) (left_behind task s a b c h os entries Quit t won slots left puts (tt, tt))
 
 -- and there was no memory for the entry
 pub left_memory : (task : Task) (s : StartedTry) (a b c : Pass) (h : Hold) (os : List ℕ) (entries : List JournalEntry) → h.flips.items ≢ [] → IsStartOf task s → Turned s a h [] → length os < 64 → know b ≡ with_journal (waits (know a) os) entries → ((q : ℕ) → q ≢ 0 → slot b q ≡ slot a q)
     → know c ≡ without_journal (know b) → Puts b c 0 none → Ended task s c h NoMemory
 left_memory task s a b c h os entries any of t count won slots left puts =
     let old = t.going.try_now in
-    left_behind task s a b c h os entries NoMemory t won slots left puts record {
-      made = s.flips;
-      next = [];
+    left_behind task s a b c h os entries NoMemory t won slots left puts (record {
+      front = s.flips;
+      rest = [];
       some = λ e. any (sym (all_made s a h t) ∙ e);
       first = sym (append-nil s.flips);
       legal = replays_on task s a h (waited old os) t of (waited_note old os).note;
       vertices = waited_vertices old os ∙ t.going.fresh.0;
       journal = let j : (waited old os).journal ≡ length os = waited_journal old os t.going.fresh.1 (omega (arith, count)) in omega (arith, count, j);
-    }
+    }, tt)
 
 -- ---- the entry
 
@@ -331,8 +330,10 @@ entered task s a b c h os entries shown round n k any of t allowed count won slo
       row = record {
         some = λ e. any (sym flips ∙ e);
         allowed = subst (λ (fs : List Flip). changes task.dim fs ≤ℤ allowed_of task.dim task.phase) (sym flips) allowed;
-        number = seq;
-        entry = ap (λ (v : PassView). v.mine) known ∙ (λ i. mine i ++ (record { round = round; worker = worker i; seq = (sym number) i; flips = (is ∙ sym flips) i }) ∷ []);
+        entered = record {
+          number = seq;
+          entry = ap (λ (v : PassView). v.mine) known ∙ (λ i. mine i ++ (record { round = round; worker = worker i; seq = (sym number) i; flips = (is ∙ sym flips) i }) ∷ []);
+        };
         vertices = waited_vertices old os ∙ t.going.fresh.0;
         journal = let j : (waited old os).journal ≡ length os = waited_journal old os t.going.fresh.1 (omega (arith, count)) in omega (arith, count, j);
       };

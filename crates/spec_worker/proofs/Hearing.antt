@@ -68,7 +68,7 @@ flips_snoc [] e = omega arith
 flips_snoc (x ∷ es) e = let h = flips_snoc es e in omega (arith, h)
 
 no_entry : (task : Task) (s : StartedTry) (t : Try) (a : Tried) → Cause task s t a → is_commit a ≡ false
-no_entry task s t (Committed n) cause = absurd cause
+no_entry task s t (Committed n) cause = absurd cause.0.entered
 no_entry task s t (Busy q o) cause = refl
 no_entry task s t Nothing cause = refl
 no_entry task s t (Blocked f) cause = refl
@@ -98,7 +98,7 @@ tried_heard task o a b c d h n dim round g mine empty (Ok seq) answer entered en
     let same = concludes.committed in
     let zero_then = ap length empty in
     let all_now = ap length entered.flips in
-    let entries = ap flips_in (mine ∙ entered.row.entry) ∙ flips_snoc g.begun.mine _ in
+    let entries = ap flips_in (mine ∙ entered.row.entered.entry) ∙ flips_snoc g.begun.mine _ in
     let were = ap flips_in g.mine in
     let one = ap (λ (t : Tried). commits (t ∷ [])) is.0 in
     let ended = ap (λ (t : Heard). t.ended) e in

@@ -113,12 +113,12 @@ ended_quit task s pass h rest a t is = subst (Ended task s pass h) (sym is) reco
   try_now = t.going.try_now;
   noting = t.going.noting;
   mine = t.going.mine;
-  reason = tt;
+  reason = (tt, tt);
   restorable = made_restorable pass pass h t.now pass.sees t.made refl t.made.hosts;
 }
 
 pub ended_claim_quit : (task : Task) (s : StartedTry) (pass : Pass) (h : Hold) (reason : Stopped) → reason ≡ stopped.Quit → Ends s pass h reason → Ended task s pass h Quit
-ended_claim_quit task s pass h reason is e = record { try_now = e.try_now; noting = e.noting; mine = e.mine; reason = tt; restorable = e.restorable }
+ended_claim_quit task s pass h reason is e = record { try_now = e.try_now; noting = e.noting; mine = e.mine; reason = (tt, tt); restorable = e.restorable }
 
 -- another worker had a label
 pub ended_busy : (task : Task) (s : StartedTry) (pass : Pass) (h : Hold) (p w q o : ℕ) (reason : Stopped) → reason ≡ stopped.Busy q o → p ≡ q → w ≡ o → Ends s pass h reason → Ended task s pass h (Busy p w)
@@ -128,13 +128,12 @@ ended_busy task s pass h p w q o reason is at by e =
       try_now = e.try_now;
       noting = e.noting;
       mine = e.mine;
-      reason = record {
+      reason = (record {
         last = r.last;
         owner = r.owner;
-        other = r.worker;
         vertex = λ _. record { other = r.other; label = r.label; vertices = r.vertices; journal = r.journal };
         journal = λ z. absurd (omega (arith, z, r.low));
-      };
+      }, r.worker);
       restorable = e.restorable;
     }
 
@@ -168,15 +167,17 @@ ended_blocked task s f next a b h n e fault t is known illegal refused r = let w
   try_now = t.going.try_now;
   noting = subst (λ (v : PassView). Noting s v t.going.try_now) (sym known) t.going.noting;
   mine = ap (λ (v : PassView). v.mine) known ∙ t.going.mine;
-  reason = record {
-    before = h.flips.items;
-    next = next;
+  reason = (record {
+    front = h.flips.items;
+    rest = next;
     member = t.whole;
-    legal = replays_on s task.dim a h t.now t.going t.made is;
-    labels = λ q u. ap (λ (l : List (ℕ × VersionedStar)). has_item l q) t.going.note ∙ t.labels q u;
-    face = only_face s t.now t.free f (after_flips s.home.star h.flips.items) e t.star t.fits w;
+    blocked = record {
+      legal = replays_on s task.dim a h t.now t.going t.made is;
+      labels = λ q u. ap (λ (l : List (ℕ × VersionedStar)). has_item l q) t.going.note ∙ t.labels q u;
+      face = only_face s t.now t.free f (after_flips s.home.star h.flips.items) e t.star t.fits w;
+    };
     unrefused = t.going.fresh;
-  };
+  }, tt);
   restorable = r;
 }
 
@@ -202,9 +203,9 @@ ended_memory task s f next a b h n fault t is known want told back =
       try_now = t.going.try_now;
       noting = subst (λ (v : PassView). Noting s v t.going.try_now) (sym known) t.going.noting;
       mine = ap (λ (v : PassView). v.mine) known ∙ t.going.mine;
-      reason = record {
-        made = h.flips.items ++ f ∷ [];
-        next = next;
+      reason = (record {
+        front = h.flips.items ++ f ∷ [];
+        rest = next;
         some = not_made h.flips.items f;
         first = t.whole ∙ sym (append_assoc h.flips.items (f ∷ []) next);
         legal = record {
@@ -217,6 +218,6 @@ ended_memory task s f next a b h n fault t is known want told back =
         };
         vertices = t.going.fresh.0;
         journal = (let z : t.going.try_now.journal ≡ 0 = t.going.fresh.1 in omega (arith, z));
-      };
+      }, tt);
       restorable = back;
     }

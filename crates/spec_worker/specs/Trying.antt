@@ -4,7 +4,7 @@ use Rattle.complex_core.specs.Labels.{has}
 use Rattle.complex_core.specs.Complexes.{ComplexView}
 use Rattle.flip_rules.specs.declared.flip.Flip.{Flip}
 use Rattle.board_rule.specs.Items.{has_item}
-use Rattle.board_rule.specs.Tries.{Try, Unrefused}
+use Rattle.board_rule.specs.Tries.{Try}
 use Rattle.board_rule.specs.Views.{star_in}
 use Rattle.anneal_plan.specs.Fits.{FitsStar}
 use Rattle.anneal_plan.specs.Turns.{after_flips, turn_count}
@@ -12,11 +12,13 @@ use Rattle.vertex_claims.specs.Passes.{know}
 use Rattle.vertex_claims.specs.declared.pass.Pass.{Pass}
 use Rattle.held_stars.specs.Holding.{StartedTry, Noting, Going, Made, Restorable, Settles}
 use Rattle.held_stars.specs.declared.hold.Hold.{Hold}
-use Rattle.round_rules.specs.Own.{BusyOwn, BlockedOwn, DeclinedOwn, CommittedOwn, WantedOwn}
+use Rattle.vertex_claims.specs.Marks.{mark_of}
+use Rattle.round_rules.specs.Rows.{CommittedRow, Row}
+use Rattle.round_rules.specs.Own.{ReplaysOn, BlockedOn, EntersNext, OtherRefused}
 use Rattle.round_rules.specs.Tasks.{Task, place_of, turns_of}
 use Rattle.round_rules.specs.declared.tried.Tried.{Tried}
 use Rattle.spec_worker.specs.Workers.{ArePlaces}
-use Rattle.spec_worker.specs.declared.turning.TryPlan.{TryPlan}
+use Rattle.spec_worker.specs.declared.turns.TryPlan.{TryPlan}
 use Rattle.round_rules.specs.declared.tried.Tried.TheVariants.{Committed, Busy, Nothing, Blocked, Declined, Quit, NoMemory}
 
 -- the story is that of the task: it begins at the task's place, and may claim the labels of the flips that the task proposes at the star found there
@@ -60,13 +62,7 @@ pub record IsNext (s : StartedTry) (dim : ℕ) (pass : Pass) (h : Hold) (f : Fli
 
 -- what the note of a try has of why it ended without an entry
 abbrev pub Cause : Task → StartedTry → Try → Tried → Type 0
-Cause task s t (Committed n) = ⊥
-Cause task s t (Busy q o) = BusyOwn task s.worker t q o s.flips
-Cause task s t Nothing = (s.flips ≡ []) × Unrefused t.vertices t.journal
-Cause task s t (Blocked f) = BlockedOwn task t f s.flips
-Cause task s t (Declined c) = DeclinedOwn task t c s.flips
-Cause task s t Quit = ⊤
-Cause task s t NoMemory = WantedOwn task t s.flips
+Cause task s t a = Row (ReplaysOn task.dim t.note) (BlockedOn task.dim t.note) (λ n flips. ⊥) task (mark_of t) s.flips a × OtherRefused s.worker a
 
 -- it ended without an entry, and the stars that it holds can be put back as they came
 pub record Ended (task : Task) (s : StartedTry) (pass : Pass) (h : Hold) (a : Tried) : Type 0 where
@@ -80,7 +76,7 @@ pub record Ended (task : Task) (s : StartedTry) (pass : Pass) (h : Hold) (a : Tr
 pub record Entered (task : Task) (round : ℕ) (s : StartedTry) (pass : Pass) (h : Hold) (n : ℕ) : Type 0 where
   pub try_now : Try
   pub noting : Noting s (know pass) try_now
-  pub row : CommittedOwn task round s.worker try_now n s.mine (know pass).mine s.flips
+  pub row : CommittedRow (EntersNext round s.worker s.mine (know pass).mine n s.flips) task (mark_of try_now) s.flips
   pub flips : h.flips.items ≡ s.flips
   pub settles : Settles pass h.flips.items
   pub places : (q : ℕ) → has_item (know pass).items q ≡ true → has h.places.items q ≡ true
