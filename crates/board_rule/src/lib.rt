@@ -5,15 +5,14 @@
 //! slots, and about what each worker knows. It holds between any two steps.
 #![tactic(auto)]
 
-mod setup;
 mod data;
 mod kept;
 mod laws;
 mod rule;
+mod setup;
 mod view;
 
-pub use setup::Setup;
-pub use data::{VersionedStar, OpenJournal, Slot};
+pub use data::{OpenJournal, Slot, VersionedStar};
 pub use kept::Kept;
 pub use laws::{
     closed_board_is_lawful, commit_is_lawful, first_claim_is_lawful, later_claim_is_lawful,
@@ -22,4 +21,5 @@ pub use laws::{
 pub use rule::{
     ClaimFirst, ClaimJournal, ClaimStar, Commit, HandOut, Leave, Release, Ruling, TakeBack,
 };
+pub use setup::Setup;
 pub use view::{MainView, PassView, View};

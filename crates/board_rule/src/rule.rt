@@ -3,8 +3,8 @@ ghost use Rattle.board_rule.specs.Rule.{Ruled, opener};
 ghost use Rattle.board_rule.specs.Plays.{began, claimed, fetched, released, left, wrote, handed, given, gathered};
 ghost use Rattle.board_rule.specs.declared.view.View.TheVariants.{Spent};
 
-use crate::setup::Setup;
 use crate::data::Slot;
+use crate::setup::Setup;
 use crate::view::View;
 use atomic_table::{Join, Play, Split, TableRule};
 

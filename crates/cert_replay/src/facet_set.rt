@@ -8,7 +8,7 @@ ghost use Rattle.std.specs.BTreeSet.{IsOrdered};
 ghost use Rattle.cert_replay.specs.Rows.{row_cmp, facets_at, Puts, Takes};
 
 use complex_core::{Complex, ComplexFault, Face};
-use flip_rules::{Flip, FlipFault, Sides, check_near};
+use flip_rules::{FewFaces, Flip, FlipFault, check_near};
 use std::alloc::{AllocError, Global};
 use std::collections::BTreeSet;
 use std::marker::Model;
@@ -153,7 +153,7 @@ impl FacetSet {
         ensures broken_rule { IfErr result (FlipRefused (broken_rule self flip.now.a flip.now.b)) }
     {
         let out = self.check(alloc, flip)?;
-        let more = Sides::of(&flip.b, &flip.a);
+        let more = FewFaces::join_boundary(&flip.b, &flip.a);
         let FacetSet { dim, mut rows } = self;
         take_facets(&mut rows, &out);
         match put_facets(&mut rows, more.as_slice()) {

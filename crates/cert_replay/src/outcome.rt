@@ -28,7 +28,10 @@ pub(crate) fn replay_flips(
     for (position, flip) in flips.iter().enumerate() {
         match set.flipped(alloc, flip) {
             Ok(next) => set = next,
-            Err(FlipFault::Illegal(illegal)) => return Ok(Outcome::Bad(position as u64 + 1, illegal)),
+            Err(FlipFault::Illegal(illegal)) => return Ok(Outcome::Bad(
+                position as u64 + 1,
+                illegal,
+            )),
             Err(FlipFault::Memory) => return Err(AllocError),
         }
     }

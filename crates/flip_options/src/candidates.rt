@@ -15,7 +15,11 @@ use std::collections::BTreeMap;
 pub(crate) type Candidates = BTreeMap<(usize, Face), Face>;
 
 /// Looks at a face again: puts its flip in, or takes it out.
-pub(crate) fn refresh(candidates: &mut Candidates, stars: &StarMap, face: &Face) -> Result<(), AllocError>
+pub(crate) fn refresh(
+    candidates: &mut Candidates,
+    stars: &StarMap,
+    face: &Face,
+) -> Result<(), AllocError>
     requires { (k : ComplexView) × IsStarListOf k stars.now }
     ensures { OnOk result (Refreshed stars.now candidates.old candidates.new (λ k a. a ≡ face.now)) }
 {

@@ -6,13 +6,13 @@
 //! 3-sphere" (2000), after Pachner's moves.
 #![tactic(auto)]
 
+mod candidates;
 mod descended;
 mod descent;
-mod smallest_star;
 mod options;
 mod partner;
 mod refresh;
-mod candidates;
+mod smallest_star;
 
 pub use descended::Descended;
 pub use descent::descend;

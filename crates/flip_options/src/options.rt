@@ -6,8 +6,8 @@ ghost use Rattle.stars.specs.StarViews.{IsStarListOf};
 ghost use Rattle.descent_laws.specs.Descents.{IsMinimal, IsBest};
 ghost use Rattle.flip_options.specs.OptionViews.{AreOptions, IsStep};
 
-use crate::refresh::{refresh_links, refresh_parts, refresh_star};
 use crate::candidates::{Candidates, first_flip};
+use crate::refresh::{refresh_links, refresh_parts, refresh_star};
 use flip_rules::Flip;
 use stars::StarMap;
 use std::alloc::{AllocError, Global};

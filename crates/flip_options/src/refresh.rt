@@ -5,8 +5,8 @@ ghost use Rattle.complex_core.specs.Subsets.{IsSubset};
 ghost use Rattle.stars.specs.StarViews.{IsStarListOf, places_in};
 ghost use Rattle.flip_options.specs.Candidates.{Refreshed, IsPart, IsPartAt, IsLinked, IsChanged, MeetsChanged};
 
-use crate::smallest_star::near;
 use crate::candidates::{Candidates, refresh};
+use crate::smallest_star::near;
 use complex_core::Face;
 use flip_rules::Flip;
 use stars::StarMap;
@@ -84,7 +84,11 @@ pub(crate) fn refresh_star(
 }
 
 // Looks again at each A that is linked with this B: there are facets A with B less one label.
-fn refresh_partners(candidates: &mut Candidates, stars: &StarMap, other: &Face) -> Result<(), AllocError>
+fn refresh_partners(
+    candidates: &mut Candidates,
+    stars: &StarMap,
+    other: &Face,
+) -> Result<(), AllocError>
     requires stars { (k : ComplexView) × IsStarListOf k stars.now }
     requires some { 2 ≤ length other.now }
     ensures { OnOk result (Refreshed stars.now candidates.old candidates.new (λ k a. IsLinked k a other.now)) }

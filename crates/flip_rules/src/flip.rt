@@ -6,8 +6,8 @@ ghost use Rattle.complex_core.specs.Labels.{has, face_cmp, IsFace};
 ghost use Rattle.complex_core.specs.Complexes.{ComplexView};
 ghost use Rattle.flip_rules.specs.Flips.{has_shape, link_fault, broken_rule, broken_rule_near, IsNear, flipped, FlipRefused, LeadsBack, CanPut, Legal, OfFaces};
 
+use crate::few_faces::FewFaces;
 use crate::link::{are_sides, have_sides, is_held};
-use crate::sides::Sides;
 use complex_core::{Complex, Face};
 
 /// A bistellar flip: it takes out the facets that contain A, which are A with B less one label of
@@ -65,15 +65,15 @@ fn is_shape(dim: u32, flip: &Flip) -> bool
     first != 0 && second != 0 && !shares(&flip.a, &flip.b) && first + second == dim as usize + 2
 }
 
-// The first rule that the facets near A break: some contain A, and these are its sides with B.
+// The first rule that the facets near A break: some contain A, and these are the join of A with the boundary of B.
 fn check_link(near_a: &[Face], first: &Face, second: &Face) -> Result<(), Illegal>
     requires few { length first.now + length second.now ≤ 8 }
     requires some { 0 < length second.now }
     requires rising { IsStrictlySortedBy face_cmp near_a.now }
     ensures { result ≡ link_fault near_a.now first.now second.now }
 {
-    let sides = Sides::of(first, second);
-    // Sides that are all there contain A, so that A itself needs no pass over the facets.
+    let sides = FewFaces::join_boundary(first, second);
+    // Facets of the join that are all there contain A, so that A itself needs no pass over the facets.
     if have_sides(near_a, sides.as_slice()) {
         if are_sides(near_a, first, sides.as_slice()) {
             Ok(())
@@ -185,8 +185,8 @@ pub fn apply(complex: &mut Complex, flip: &Flip) -> Result<(), FlipFault>
     if let Err(illegal) = check(complex, flip) {
         return Err(FlipFault::Illegal(illegal));
     }
-    let out = Sides::of(&flip.a, &flip.b);
-    let more = Sides::of(&flip.b, &flip.a);
+    let out = FewFaces::join_boundary(&flip.a, &flip.b);
+    let more = FewFaces::join_boundary(&flip.b, &flip.a);
     match complex.exchange(out.as_slice(), more.as_slice()) {
         Ok(()) => Ok(()),
         Err(_) => Err(FlipFault::Memory),

@@ -7,14 +7,14 @@
 #![tactic(auto)]
 
 mod boundary;
+mod few_faces;
 mod flip;
 mod journal;
 mod laws;
 mod link;
-mod sides;
 
 pub use boundary::is_simplex_boundary;
+pub use few_faces::FewFaces;
 pub use flip::{Flip, FlipFault, Illegal, apply, check, check_near, index, inverse};
 pub use journal::{Entry, Flips, Journal};
 pub use laws::{exchange_law, journal_law, replay_law};
-pub use sides::Sides;

@@ -6,7 +6,7 @@ ghost use Rattle.complex_core.specs.Labels.{holds, face_cmp};
 ghost use Rattle.complex_core.specs.Complexes.{is_held, is_facet};
 ghost use Rattle.flip_rules.specs.Flips.{link_is};
 
-use crate::sides::Sides;
+use crate::few_faces::FewFaces;
 use complex_core::Face;
 
 // Whether some of the facets contains the set.
@@ -47,6 +47,6 @@ pub(crate) fn is_link(facets: &[Face], first: &Face, second: &Face) -> bool
     requires rising { IsStrictlySortedBy face_cmp facets.now }
     ensures { result ≡ link_is facets.now first.now second.now }
 {
-    let sides = Sides::of(first, second);
+    let sides = FewFaces::join_boundary(first, second);
     have_sides(facets, sides.as_slice()) && are_sides(facets, first, sides.as_slice())
 }

@@ -9,7 +9,7 @@ ghost use Rattle.core_laws.specs.Cores.{after};
 ghost use Rattle.flip_world.specs.Drafts.{SeenOver};
 
 use complex_core::{Complex, Face, put_all_in, take_all_out};
-use flip_rules::{Flip, Sides};
+use flip_rules::{FewFaces, Flip};
 use std::alloc::{AllocError, Global};
 use std::marker::Model;
 
@@ -117,8 +117,8 @@ impl Draft {
         // The sides are a flip's where its labels are in order: `labels` says so.
         let _first = flip.a.labels();
         let _second = flip.b.labels();
-        let old_sides = Sides::of(&flip.a, &flip.b);
-        let new_sides = Sides::of(&flip.b, &flip.a);
+        let old_sides = FewFaces::join_boundary(&flip.a, &flip.b);
+        let new_sides = FewFaces::join_boundary(&flip.b, &flip.a);
         let out = old_sides.as_slice();
         let more = new_sides.as_slice();
         // Room first, so that nothing is changed where there is none.

@@ -10,9 +10,9 @@ ghost use Rattle.core_laws.specs.Steps.{Step, StepRefused, ClaimTold, ClaimRefus
 ghost use Rattle.core_laws.specs.Serials.{Serial};
 
 use crate::draft::Draft;
-use core_laws::{Event, Refused, StepFault, Told};
 use crate::judge::{judged, stray_label, unowned_label};
 use complex_core::Complex;
+use core_laws::{Event, Refused, StepFault, Told};
 use flip_rules::{Entry, Flip, Illegal, Journal};
 use std::alloc::{AllocError, Global};
 use std::marker::Model;

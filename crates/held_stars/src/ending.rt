@@ -17,7 +17,7 @@ ghost use Rattle.held_stars.specs.Holding.{Settles, Restorable, Roomy, waits};
 
 use crate::hold::Hold;
 use crate::lending::swap_star;
-use board_rule::{VersionedStar, Slot};
+use board_rule::{Slot, VersionedStar};
 use flip_rules::Flip;
 use vertex_claims::{Board, Pass};
 

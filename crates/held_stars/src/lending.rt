@@ -12,7 +12,7 @@ ghost use Rattle.board_rule.specs.declared.data.VersionedStar.{VersionedStar};
 ghost use Rattle.vertex_claims.specs.Passes.{IsOf, IsSame, know, slot, spare, Puts};
 ghost use Rattle.held_stars.specs.Holding.{Hosts, Lends, Emptied, Copies, with_copies};
 
-use board_rule::{VersionedStar, Slot};
+use board_rule::{Slot, VersionedStar};
 use stars::{Star, has_star};
 use std::alloc::{AllocError, Global};
 use vertex_claims::{Board, Pass};

@@ -31,7 +31,10 @@ fn judge_certificate(
             Status::Yes,
             shown_text(alloc, certificate, flips, facets)?,
         )),
-        Replayed::Bad { number, fault } => Ok(plain(Status::No, illegal_text(alloc, number, fault)?)),
+        Replayed::Bad { number, fault } => Ok(plain(
+            Status::No,
+            illegal_text(alloc, number, fault)?,
+        )),
         Replayed::WrongEnd => Ok(plain(Status::No, wrong_end_text(alloc)?)),
     }
 }

@@ -11,9 +11,9 @@ ghost use Rattle.job_trace.specs.Traced.{placed};
 ghost use Rattle.job_trace.specs.TraceRuns.{HasPlaces};
 
 use complex_core::VertexMap;
+use core_laws::Event;
 use flip_names::named_flip;
 use flip_rules::Flip;
-use core_laws::Event;
 use std::alloc::{AllocError, Global};
 
 /// What a map makes of a label, or 0.

@@ -11,8 +11,8 @@ ghost use Rattle.job_trace.specs.TraceRuns.{entry_line};
 
 use crate::place::{number_at, numbers_at};
 use complex_core::VertexMap;
-use flip_rules::{Entry, Flip, Journal};
 use core_laws::Refused;
+use flip_rules::{Entry, Flip, Journal};
 use flip_world::World;
 use job_answer::{reason_name, write_complex_line, write_sides_line};
 use std::alloc::{AllocError, Global};

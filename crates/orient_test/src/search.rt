@@ -131,7 +131,12 @@ fn cross(
 
 // The other facet over the ridge without a label, where that lies in two facets, and whether
 // the sign turns there.
-fn neighbour(complex: &Complex, incidences: &[(Face, u16)], facet: &Face, label: u16) -> Option<Behind>
+fn neighbour(
+    complex: &Complex,
+    incidences: &[(Face, u16)],
+    facet: &Face,
+    label: u16,
+) -> Option<Behind>
     requires incidences { incidences.now ≡ incidences_in complex.now.facets }
     requires facet { is_facet complex.now.facets facet.now ≡ true }
     requires label { has facet.now label ≡ true }

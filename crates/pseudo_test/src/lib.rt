@@ -3,9 +3,9 @@
 #![tactic(auto)]
 
 mod chains;
-mod ridges;
 mod incidences;
+mod ridges;
 
 pub use chains::{Apart, strong};
-pub use ridges::{Ridge, closed, thin};
 pub use incidences::{all_incidences, over};
+pub use ridges::{Ridge, closed, thin};

@@ -7,13 +7,13 @@
 //! and reports all of them.
 #![tactic(auto)]
 
-mod results;
-mod starting;
 mod record;
 mod report;
+mod results;
 mod round;
 mod running;
 mod search;
+mod starting;
 
 pub use record::RoundRecord;
 pub use report::Report;

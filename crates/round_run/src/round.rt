@@ -9,10 +9,10 @@ ghost use Rattle.round_run.specs.Crews.{HasClosed};
 ghost use Rattle.round_run.specs.Gates.{Rise, quits_at};
 ghost use Rattle.round_run.specs.Reports.{scene};
 
-use crate::results::{Accounts, settle_all};
-use crate::starting::hire_all;
 use crate::record::RoundRecord;
+use crate::results::{Accounts, settle_all};
 use crate::running::run_all;
+use crate::starting::hire_all;
 use anneal_plan::Plan;
 use complex_core::Complex;
 use held_stars::Gate;

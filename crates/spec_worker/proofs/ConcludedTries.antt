@@ -237,13 +237,16 @@ replays_on task s a h u t of same =
     }
 
 pub declined : (task : Task) (s : StartedTry) (a : Pass) (h : Hold) (c : ℤ) → h.flips.items ≢ [] → IsStartOf task s → Turned s a h [] → (c ≡ changes task.dim h.flips.items) × (allowed_of task.dim task.phase <ℤ c) → Ended task s a h (Declined c)
-declined task s a h c any of t over = ended_here task s a h [] (Declined c) t (record {
-  some = λ e. any (sym (all_made s a h t) ∙ e);
-  legal = replays_on task s a h t.going.try_now t of refl;
-  sum = over.0 ∙ ap (changes task.dim) (sym (all_made s a h t));
-  above = over.1;
-  unrefused = t.going.fresh;
-}, tt)
+declined task s a h c any of t over = ended_here task s a h [] (Declined c) t (
+  record {
+    some = λ e. any (sym (all_made s a h t) ∙ e);
+    legal = replays_on task s a h t.going.try_now t of refl;
+    sum = over.0 ∙ ap (changes task.dim) (sym (all_made s a h t));
+    above = over.1;
+    unrefused = t.going.fresh;
+  },
+  tt,
+)
 
 -- place 0 was refused each time
 pub refused : (task : Task) (s : StartedTry) (a b : Pass) (h : Hold) (os : List ℕ) (o : ℕ) → h.flips.items ≢ [] → IsStartOf task s → Turned s a h [] → changes task.dim h.flips.items ≤ℤ allowed_of task.dim task.phase
@@ -253,18 +256,21 @@ refused task s a b h os o any of t allowed count worker known slots =
     let u = waited old (o ∷ os) in
     let w : Waits (know a) (know b) old (o ∷ os) s.earlier = waits_of (know a) (know b) old (o ∷ os) s.earlier t.going.noting.tries known in
     let journal : u.journal ≡ 64 = waited_journal old (o ∷ os) t.going.fresh.1 (omega (arith, count)) ∙ (let e : suc (length os) ≡ 64 = omega (arith, count) in e) in
-    ended task s a b h t.now (o ∷ os) (Busy 0 o) t.going t.made w (ap (λ (h : PassView). h.has_journal) known ∙ (waits_journal (know a) (o ∷ os) ∙ t.made.free)) (λ q _. slots q) (record {
-      last = refl;
-      owner = refl;
-      vertex = λ low. absurd (omega (arith, low));
-      journal = λ _. record {
-        some = λ e. any (sym (all_made s a h t) ∙ e);
-        allowed = subst (λ (fs : List Flip). changes task.dim fs ≤ℤ allowed_of task.dim task.phase) (sym (all_made s a h t)) allowed;
-        legal = replays_on task s a h u t of (waited_note old (o ∷ os)).note;
-        vertices = waited_vertices old (o ∷ os) ∙ t.going.fresh.0;
-        journal = journal;
-      };
-    }, subst (λ (n : ℕ). IsRefused n o) t.going.noting.worker worker)
+    ended task s a b h t.now (o ∷ os) (Busy 0 o) t.going t.made w (ap (λ (h : PassView). h.has_journal) known ∙ (waits_journal (know a) (o ∷ os) ∙ t.made.free)) (λ q _. slots q) (
+      record {
+        last = refl;
+        owner = refl;
+        vertex = λ low. absurd (omega (arith, low));
+        journal = λ _. record {
+          some = λ e. any (sym (all_made s a h t) ∙ e);
+          allowed = subst (λ (fs : List Flip). changes task.dim fs ≤ℤ allowed_of task.dim task.phase) (sym (all_made s a h t)) allowed;
+          legal = replays_on task s a h u t of (waited_note old (o ∷ os)).note;
+          vertices = waited_vertices old (o ∷ os) ∙ t.going.fresh.0;
+          journal = journal;
+        };
+      },
+      subst (λ (n : ℕ). IsRefused n o) t.going.noting.worker worker,
+    )
 
 -- place 0 was won and is given back as it was
 pub left_behind : (task : Task) (s : StartedTry) (a b c : Pass) (h : Hold) (os : List ℕ) (entries : List JournalEntry) (answer : Tried) (t : Turned s a h []) → know b ≡ with_journal (waits (know a) os) entries → ((q : ℕ) → q ≢ 0 → slot b q ≡ slot a q)
@@ -284,15 +290,18 @@ pub left_memory : (task : Task) (s : StartedTry) (a b c : Pass) (h : Hold) (os :
     → know c ≡ without_journal (know b) → Puts b c 0 none → Ended task s c h NoMemory
 left_memory task s a b c h os entries any of t count won slots left puts =
     let old = t.going.try_now in
-    left_behind task s a b c h os entries NoMemory t won slots left puts (record {
-      front = s.flips;
-      rest = [];
-      some = λ e. any (sym (all_made s a h t) ∙ e);
-      first = sym (append-nil s.flips);
-      legal = replays_on task s a h (waited old os) t of (waited_note old os).note;
-      vertices = waited_vertices old os ∙ t.going.fresh.0;
-      journal = let j : (waited old os).journal ≡ length os = waited_journal old os t.going.fresh.1 (omega (arith, count)) in omega (arith, count, j);
-    }, tt)
+    left_behind task s a b c h os entries NoMemory t won slots left puts (
+      record {
+        front = s.flips;
+        rest = [];
+        some = λ e. any (sym (all_made s a h t) ∙ e);
+        first = sym (append-nil s.flips);
+        legal = replays_on task s a h (waited old os) t of (waited_note old os).note;
+        vertices = waited_vertices old os ∙ t.going.fresh.0;
+        journal = let j : (waited old os).journal ≡ length os = waited_journal old os t.going.fresh.1 (omega (arith, count)) in omega (arith, count, j);
+      },
+      tt,
+    )
 
 -- ---- the entry
 

@@ -128,12 +128,15 @@ ended_busy task s pass h p w q o reason is at by e =
       try_now = e.try_now;
       noting = e.noting;
       mine = e.mine;
-      reason = (record {
-        last = r.last;
-        owner = r.owner;
-        vertex = λ _. record { other = r.other; label = r.label; vertices = r.vertices; journal = r.journal };
-        journal = λ z. absurd (omega (arith, z, r.low));
-      }, r.worker);
+      reason = (
+        record {
+          last = r.last;
+          owner = r.owner;
+          vertex = λ _. record { other = r.other; label = r.label; vertices = r.vertices; journal = r.journal };
+          journal = λ z. absurd (omega (arith, z, r.low));
+        },
+        r.worker,
+      );
       restorable = e.restorable;
     }
 
@@ -167,17 +170,20 @@ ended_blocked task s f next a b h n e fault t is known illegal refused r = let w
   try_now = t.going.try_now;
   noting = subst (λ (v : PassView). Noting s v t.going.try_now) (sym known) t.going.noting;
   mine = ap (λ (v : PassView). v.mine) known ∙ t.going.mine;
-  reason = (record {
-    front = h.flips.items;
-    rest = next;
-    member = t.whole;
-    blocked = record {
-      legal = replays_on s task.dim a h t.now t.going t.made is;
-      labels = λ q u. ap (λ (l : List (ℕ × VersionedStar)). has_item l q) t.going.note ∙ t.labels q u;
-      face = only_face s t.now t.free f (after_flips s.home.star h.flips.items) e t.star t.fits w;
-    };
-    unrefused = t.going.fresh;
-  }, tt);
+  reason = (
+    record {
+      front = h.flips.items;
+      rest = next;
+      member = t.whole;
+      blocked = record {
+        legal = replays_on s task.dim a h t.now t.going t.made is;
+        labels = λ q u. ap (λ (l : List (ℕ × VersionedStar)). has_item l q) t.going.note ∙ t.labels q u;
+        face = only_face s t.now t.free f (after_flips s.home.star h.flips.items) e t.star t.fits w;
+      };
+      unrefused = t.going.fresh;
+    },
+    tt,
+  );
   restorable = r;
 }
 
@@ -203,21 +209,24 @@ ended_memory task s f next a b h n fault t is known want told back =
       try_now = t.going.try_now;
       noting = subst (λ (v : PassView). Noting s v t.going.try_now) (sym known) t.going.noting;
       mine = ap (λ (v : PassView). v.mine) known ∙ t.going.mine;
-      reason = (record {
-        front = h.flips.items ++ f ∷ [];
-        rest = next;
-        some = not_made h.flips.items f;
-        first = t.whole ∙ sym (append_assoc h.flips.items (f ∷ []) next);
-        legal = record {
-          complex = before.complex;
-          end = flipped t.now f.a f.b;
-          stars = before.stars;
-          labels = λ q u. either (flips_touch q h.flips.items) (flip_touches q f) (has_item t.going.try_now.note q ≡ true) (sym (touch_snoc q h.flips.items f) ∙ u) (before.labels q)
-              (λ v. ap (λ (l : List (ℕ × VersionedStar)). has_item l q) t.going.note ∙ t.labels q (touch_one q f v));
-          replays = replay_then (know a).seen t.now h.flips.items f t.made.replays (none_broken (broken_rule t.now f.a f.b) fault want told);
-        };
-        vertices = t.going.fresh.0;
-        journal = (let z : t.going.try_now.journal ≡ 0 = t.going.fresh.1 in omega (arith, z));
-      }, tt);
+      reason = (
+        record {
+          front = h.flips.items ++ f ∷ [];
+          rest = next;
+          some = not_made h.flips.items f;
+          first = t.whole ∙ sym (append_assoc h.flips.items (f ∷ []) next);
+          legal = record {
+            complex = before.complex;
+            end = flipped t.now f.a f.b;
+            stars = before.stars;
+            labels = λ q u. either (flips_touch q h.flips.items) (flip_touches q f) (has_item t.going.try_now.note q ≡ true) (sym (touch_snoc q h.flips.items f) ∙ u) (before.labels q)
+                (λ v. ap (λ (l : List (ℕ × VersionedStar)). has_item l q) t.going.note ∙ t.labels q (touch_one q f v));
+            replays = replay_then (know a).seen t.now h.flips.items f t.made.replays (none_broken (broken_rule t.now f.a f.b) fault want told);
+          };
+          vertices = t.going.fresh.0;
+          journal = (let z : t.going.try_now.journal ≡ 0 = t.going.fresh.1 in omega (arith, z));
+        },
+        tt,
+      );
       restorable = back;
     }

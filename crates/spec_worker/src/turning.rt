@@ -16,7 +16,7 @@ ghost use Rattle.spec_worker.specs.Trying.{IsFit, IsTold, IsStartOf, Turned, IsN
 ghost use Rattle.spec_worker.specs.Hearing.{is_quit};
 
 use anneal_plan::{Phase, find_candidates, proposal};
-use board_rule::{VersionedStar, Slot};
+use board_rule::{Slot, VersionedStar};
 use flip_rules::{Flip, FlipFault};
 use held_stars::{Gate, Hold, Point, Stopped, claim_labels, make_flip};
 use round_rules::Tried;

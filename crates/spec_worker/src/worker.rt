@@ -156,7 +156,14 @@ impl Worker {
             count: 1 + words[7] % self.plan.depth(),
             place: self.live[words[0] as usize % self.live.len()],
         };
-        try_at(board, &mut self.pass, &mut self.hold, alloc, gate, &try_plan)
+        try_at(
+            board,
+            &mut self.pass,
+            &mut self.hold,
+            alloc,
+            gate,
+            &try_plan,
+        )
     }
 
     /// Makes the tries of the plan, each with the next eight words of the worker's stream. It ends early

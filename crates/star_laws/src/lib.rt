@@ -7,6 +7,6 @@
 mod laws;
 
 pub use laws::{
-    flip_keeps_stars, flip_on_alike, replay_keeps_stars, replay_on_alike, star_after_flip,
-    star_after_replay, broken_rule_seen_on_stars,
+    broken_rule_seen_on_stars, flip_keeps_stars, flip_on_alike, replay_keeps_stars,
+    replay_on_alike, star_after_flip, star_after_replay,
 };

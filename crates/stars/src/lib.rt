@@ -9,18 +9,18 @@
 #![tactic(auto)]
 
 mod build;
-mod local;
-mod laws;
 mod candidate_lists;
-mod map;
+mod laws;
 mod linked;
+mod local;
+mod map;
 mod over;
 mod rows;
 mod star;
 
-pub use local::{flip_here, has_labels, has_star, local_check};
 pub use laws::flips_seen_here;
-pub use map::StarMap;
 pub use linked::flip_at;
+pub use local::{flip_here, has_labels, has_star, local_check};
+pub use map::StarMap;
 pub use over::Over;
 pub use star::Star;

@@ -11,7 +11,7 @@ ghost use Rattle.stars.specs.FlipsHere.{stars_flipped};
 use crate::rows::{change_stars, place_of};
 use crate::star::Star;
 use complex_core::Face;
-use flip_rules::{Flip, FlipFault, Illegal, Sides, check_near};
+use flip_rules::{FewFaces, Flip, FlipFault, Illegal, check_near};
 
 // Some label of a set, if it has one.
 fn some_label(set: &Face) -> Option<u16>
@@ -108,8 +108,8 @@ pub fn flip_here(near: &mut [Star], flip: &Flip) -> Result<(), FlipFault>
     let Some(labels) = flip.a.union(&flip.b) else {
         unreachable!()
     };
-    let out = Sides::of(&flip.a, &flip.b);
-    let more = Sides::of(&flip.b, &flip.a);
+    let out = FewFaces::join_boundary(&flip.a, &flip.b);
+    let more = FewFaces::join_boundary(&flip.b, &flip.a);
     match change_stars(
         near,
         &labels.labels(),

@@ -9,7 +9,7 @@ ghost use Rattle.stars.specs.Changes.{stars_changed, CanChange, IsWithin};
 
 use crate::star::{Lent, Star};
 use complex_core::{Face, put_all_in, take_all_out};
-use flip_rules::Sides;
+use flip_rules::FewFaces;
 use std::alloc::AllocError;
 
 // The place of a vertex among stars that rise in their vertices.
@@ -44,7 +44,7 @@ pub(crate) fn change_stars(
     };
     let place = place_of(near, *label);
     let Lent { mut rows, lists } = near[place].lend_rows();
-    let more_here = Sides::holding(more, *label);
+    let more_here = FewFaces::holding(more, *label);
     let more_here = more_here.as_slice();
     if let Err(fault) = rows.reserve(more_here.len()) {
         near[place].put_rows(rows);

@@ -11,9 +11,9 @@ ghost use Rattle.trace_text.specs.Outcomes.{Fails};
 use crate::fault::TraceFault;
 use crate::part::{count_here, place_here};
 use complex_core::VertexMap;
+use core_laws::Event;
 use facet_text::Word;
 use flip_rules::Flip;
-use core_laws::Event;
 use line_text::{Labels, end_here, first_word, read_flip};
 use std::alloc::Global;
 

@@ -7,7 +7,7 @@ ghost use Rattle.stars.specs.StarViews.{UsesUpTo};
 use crate::main_seat::Main;
 use crate::slots::{homes, unpack};
 use atomic_table::{Refused, Table};
-use board_rule::{Setup, Ruling, Slot, View};
+use board_rule::{Ruling, Setup, Slot, View};
 use complex_core::Complex;
 use flip_rules::Journal;
 use stars::StarMap;

@@ -9,12 +9,12 @@
 
 mod append;
 mod board;
-mod main_seat;
 mod count;
-mod slots;
+mod main_seat;
 mod mark;
 mod pass;
 mod reordering;
+mod slots;
 
 pub use board::Board;
 pub use main_seat::Main;

@@ -13,7 +13,9 @@ use crate::count::count;
 use crate::mark::{Found, Mark, first_mark};
 use crate::reordering::bring;
 use atomic_table::Seat;
-use board_rule::{ClaimFirst, ClaimJournal, ClaimStar, Commit, VersionedStar, Leave, Release, Slot, View};
+use board_rule::{
+    ClaimFirst, ClaimJournal, ClaimStar, Commit, Leave, Release, Slot, VersionedStar, View,
+};
 use flip_rules::{Entry, Flip};
 use std::alloc::AllocError;
 use std::collections::VecDeque;

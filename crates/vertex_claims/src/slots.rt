@@ -12,7 +12,7 @@ ghost use Rattle.board_rule.specs.declared.data.VersionedStar.{VersionedStar};
 ghost use Rattle.vertex_claims.specs.Laid.{HomesOf};
 
 use atomic_table::Closed;
-use board_rule::{VersionedStar, OpenJournal, Slot};
+use board_rule::{OpenJournal, Slot, VersionedStar};
 use stars::Star;
 use std::alloc::{AllocError, Global};
 

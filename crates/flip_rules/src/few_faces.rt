@@ -1,4 +1,4 @@
-// The facets that a flip takes out or puts in, one after another, in a value that takes no memory.
+// A few faces in a value that takes no memory, as the facets that a flip takes out or puts in.
 ghost use Rattle.std.specs.Prelude.{◌≡◌, ◌≤◌, ◌+◌, ◌∷◌, [], length};
 ghost use Rattle.complex_core.specs.Labels.{union, without};
 ghost use Rattle.complex_core.specs.Complexes.{over};
@@ -7,18 +7,17 @@ ghost use Rattle.flip_rules.specs.Flips.{join_boundary};
 use complex_core::Face;
 use std::marker::Model;
 
-/// The sides of a first set with a second one: their union less one label of the second, for each of
-/// these. Contracts see the list of the sides.
+/// At most eight faces, one after another, which take no memory. Contracts see their list.
 ///
-/// A flip (A, B) takes out the sides of A with B, and puts in those of B with A. They are at most
-/// eight, so they take no memory.
+/// A flip (A, B) takes out the facets of the join of A with the boundary of B, and puts in those of the
+/// join of B with the boundary of A.
 #[derive(Drop)]
-pub struct Sides {
+pub struct FewFaces {
     all: [Face; 8],
     count: usize,
 }
 
-impl Model for Sides {
+impl Model for FewFaces {
     ghost use Rattle.std.specs.Prelude.{List, ℕ, take, ◌≤◌};
 
     ghost Value = { List (List ℕ) };
@@ -39,25 +38,26 @@ fn side(first: &Face, second: &Face, label: u16) -> Face
     }
 }
 
-impl Sides {
-    /// The sides of the first set with the second: one for each label of the second, in its order.
-    pub fn of(first: &Face, second: &Face) -> Sides
+impl FewFaces {
+    /// The join of the first set with the boundary of the second: their union less one label of the
+    /// second, for each of these, in their order.
+    pub fn join_boundary(first: &Face, second: &Face) -> FewFaces
         requires { length first.now + length second.now ≤ 8 }
         ensures { result ≡ join_boundary first.now second.now }
     {
         let mut all = [Face::new(); 8];
         let labels = second.labels();
-        for (place, label) in labels.iter().enumerate() {
-            all[place] = side(first, second, *label);
+        for (position, label) in labels.iter().enumerate() {
+            all[position] = side(first, second, *label);
         }
-        Sides {
+        FewFaces {
             all,
             count: second.len(),
         }
     }
 
-    /// Those of some sets, at most eight, that contain a label, in their order.
-    pub fn holding(sets: &[Face], label: u16) -> Sides
+    /// Those of some faces, at most eight, that contain a label, in their order.
+    pub fn holding(sets: &[Face], label: u16) -> FewFaces
         requires { length sets.now ≤ 8 }
         ensures { result ≡ over sets.now (label ∷ []) }
     {
@@ -69,10 +69,10 @@ impl Sides {
                 count += 1;
             }
         }
-        Sides { all, count }
+        FewFaces { all, count }
     }
 
-    /// The sets, in their order.
+    /// The faces, in their order.
     pub fn as_slice(&self) -> &[Face]
         ensures { result.now ≡ self.now }
     {

@@ -1,7 +1,7 @@
 use Rattle.std.proofs.Common.{◌≤◌, subst, sym, length, List, ℕ}
 use Rattle.complex_core.specs.Labels.{union}
 use Rattle.complex_core.proofs.Laws.{side_fits}
-use Rattle.flip_rules.proofs.sides.side.Goals as goal
+use Rattle.flip_rules.proofs.few_faces.side.Goals as goal
 
 pub unreachable-requires : goal.unreachable-requires
 unreachable-requires c =

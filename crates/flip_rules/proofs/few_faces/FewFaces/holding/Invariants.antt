@@ -1,6 +1,6 @@
 use Rattle.std.proofs.Common.{◌≡◌, ◌≤◌, ◌∷◌, [], take, length}
 use Rattle.complex_core.specs.Complexes.{over}
-use Rattle.flip_rules.proofs.sides.Sides.holding.Given as goal
+use Rattle.flip_rules.proofs.few_faces.FewFaces.holding.Given as goal
 
 abbrev pub invariant-loop-set : goal.invariant-loop-set
 invariant-loop-set l = record {
