@@ -1,8 +1,9 @@
 // Lists of candidates, which a star keeps.
-ghost use Rattle.std.specs.Prelude.{◌≡◌, ◌+◌, ◌-◌, ◌≤◌, length, IfOk, IfSome, OnOk};
+ghost use Rattle.std.specs.Prelude.{◌≡◌, ◌+◌, ◌-◌, ◌≤◌, ◌++◌, length, map, filter, IfOk, IfSome, OnOk};
 ghost use Rattle.std.specs.List.Sorted.{IsStrictlySortedBy};
 ghost use Rattle.std.specs.Ordering.{nat_cmp};
-ghost use Rattle.complex_core.specs.Labels.{face_cmp};
+ghost use Rattle.complex_core.specs.Labels.{IsRising, face_cmp};
+ghost use Rattle.complex_core.specs.Subsets.{subsets_of};
 ghost use Rattle.stars.specs.StarViews.{VertexStar, IsStar};
 ghost use Rattle.stars.specs.Candidates.{IsListOf, is_candidate};
 ghost use Rattle.stars.specs.CandidateLists.{AreLists, ChangedWithin, belongs, candidates_within, list_after, not_within};
@@ -81,6 +82,36 @@ fn belongs(star: &Star, index: u32, face: &Face) -> bool
     is_candidate(star, face)
 }
 
+// Adds the candidates of an index among the sets of a face and so many of some labels, which are above
+// those of the face.
+fn add_candidates(
+    star: &Star,
+    index: u32,
+    face: &Face,
+    labels: &[u16],
+    others: usize,
+    all: &mut Vec<Face>,
+) -> Result<(), AllocError>
+    requires low { 1 ≤ index }
+    requires high { index ≤ star.now.dim }
+    requires face { IsRising (face.now ++ labels.now) }
+    requires few { length face.now + others ≤ 8 }
+    ensures { OnOk result (all.new.items ≡ all.old.items ++ filter (belongs star.now index) (map (λ s. face.now ++ s) (subsets_of others labels.now))) }
+{
+    if others == 0 {
+        if belongs(star, index, face) {
+            all.push(*face)?;
+        }
+        return Ok(());
+    }
+    let Some((label, rest)) = labels.split_first() else {
+        return Ok(());
+    };
+    let more = face.with(*label).unwrap();
+    add_candidates(star, index, &more, rest, others - 1, all)?;
+    add_candidates(star, index, face, rest, others, all)
+}
+
 // The subsets of some labels that are candidates of an index.
 fn candidates_within(
     alloc: Global,
@@ -95,12 +126,7 @@ fn candidates_within(
 {
     let size = (star.dim() + 1 - index) as usize;
     let mut all = Vec::new(alloc);
-    let subsets = labels.subsets(alloc, size)?;
-    for face in subsets.as_slice() {
-        if belongs(star, index, face) {
-            all.push(*face)?;
-        }
-    }
+    add_candidates(star, index, &Face::new(), labels.labels(), size, &mut all)?;
     Ok(all)
 }
 
