@@ -1,7 +1,6 @@
 -- What leads to the boundary of a simplex looks like one.
 use Rattle.std.proofs.Common.{◌≡◌, ℕ, true, List, Option, None, Some, Result, Ok, Err, sym, ◌∙◌, ap, subst}
 use Rattle.std.specs.Prelude.{IfOk, IfSome, MatchOption}
-use Rattle.std.specs.List.{AllByRecursion}
 use Rattle.std.specs.List.Sorted.{IsStrictlySortedBy}
 use Rattle.std.specs.Ordering.{nat_cmp}
 use lib.IntN.{pos, ◌+ℤ◌}
@@ -12,10 +11,6 @@ use Rattle.face_counts.specs.Eulers.{euler, power}
 use Rattle.pseudo_test.specs.Ridges.{Closed}
 use Rattle.pseudo_test.specs.Chains.{StronglyConnected}
 use Rattle.orient_test.specs.Signs.{Orientable}
-use Rattle.flip_rules.specs.declared.flip.Flip.{Flip}
-use Rattle.flip_rules.specs.Flips.{OfFaces}
-use Rattle.flip_rules.specs.Boundaries.{IsBoundary}
-use Rattle.flip_rules.specs.Certificates.{SphereCert}
 use Rattle.flip_laws.specs.declared.obstacle.Obstacle.{Obstacle}
 use Rattle.flip_laws.specs.declared.obstacle.Obstacle.TheVariants as obstacle
 use Rattle.flip_laws.specs.Keeping.{Keeps}

@@ -1,8 +1,7 @@
 -- What flips keep, one and many.
-use Rattle.std.proofs.Common.{◌≡◌, ℕ, List, [], ◌∷◌, ◌++◌, Option, Some, Result, Ok, Err, sym, ◌∙◌, ap, refl, subst}
+use Rattle.std.proofs.Common.{◌≡◌, ℕ, List, [], ◌∷◌, Some, Ok, sym, ◌∙◌, refl, subst}
 use Rattle.complex_core.specs.Labels.{IsFace, union}
 use Rattle.complex_core.specs.Complexes.{ComplexView, IsComplex}
-use Rattle.flip_rules.specs.declared.flip.Flip.{Flip}
 use Rattle.flip_rules.specs.Flips.{broken_rule, flipped, replay}
 use Rattle.flip_rules.proofs.Legal.{legal}
 use Rattle.flip_rules.proofs.Replays.{first_flip, complex_flipped}

@@ -17,7 +17,7 @@ use Rattle.pseudo_test.proofs.Spreading.{here, join}
 use Rattle.flip_laws.proofs.ChainsKept.{over_b}
 use Rattle.flip_laws.proofs.SignsKept.{canon, canon_opposite, lost, lost_without}
 use Rattle.std.proofs.lemmas.Bool.{false_from_ne_true}
-use Rattle.complex_core.proofs.SubsetLists.{two, clash}
+use Rattle.complex_core.proofs.SubsetLists.{clash}
 use Rattle.complex_core.proofs.Members.{without_has, without_gone, in_without}
 
 side_of : (w : List ℕ) (f : List ℕ) → listed (rising face_cmp (map (λ x. without w x) w)) f ≡ true → (x : ℕ) × (has w x ≡ true) × (f ≡ without w x)
