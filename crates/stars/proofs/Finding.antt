@@ -81,3 +81,7 @@ pub each_at : {X : Type 0} (P : X → Type 0) (xs : List X) (i : ℕ) (d : X) �
 each_at P [] i d h l = absurd (omega (arith, l))
 each_at P (x ∷ xs) zero d h l = h.0
 each_at P (x ∷ xs) (suc i) d h l = each_at P xs i d h.1 (omega (arith, l))
+
+pub each_from : {X : Type 0} (P : X → Type 0) (xs : List X) (d : X) → ((i : ℕ) → i < length xs → P (get_or xs i d)) → AllByRecursion P xs
+each_from P [] d h = tt
+each_from P (x ∷ xs) d h = (h 0 (omega arith), each_from P xs d (λ i l. h (suc i) (omega (arith, l))))

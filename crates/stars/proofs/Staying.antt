@@ -12,12 +12,12 @@ use Rattle.star_laws.specs.Stars.{star}
 use Rattle.stars.specs.StarViews.{VertexStar, IsStar}
 use Rattle.stars.specs.Changes.{star_changed, AreWithin}
 use Rattle.stars.specs.CandidateLists.{ChangedWithin}
-use Rattle.stars.proofs.Listing.{each_listed}
+use Rattle.complex_core.proofs.SetLists.{of_kind}
 
 -- a set within some labels holds no set that has another label
 not_over : (labels f set : List ℕ) (fs : List (List ℕ)) → AreWithin labels fs → holds labels set ≡ false → listed fs f ≡ true → holds f set ≡ false
 not_over labels f set fs within e t = elim (two (holds f set)) [
-  | inl h ↦ clash (holds labels set) (holds_each labels set (λ z u. holds_has labels f z (each_listed (λ g. holds labels g ≡ true) fs f within t) (holds_has f set z h u))) e
+  | inl h ↦ clash (holds labels set) (holds_each labels set (λ z u. holds_has labels f z (of_kind (λ g. holds labels g ≡ true) fs f within t) (holds_has f set z h u))) e
   | inr g ↦ g
 ]
 

@@ -126,7 +126,7 @@ fn candidates_within(
 {
     let size = (star.dim() + 1 - index) as usize;
     let mut all = Vec::new(alloc);
-    add_candidates(star, index, &Face::new(), labels.labels(), size, &mut all)?;
+    add_candidates(star, index, &Face::new(), &labels.labels(), size, &mut all)?;
     Ok(all)
 }
 

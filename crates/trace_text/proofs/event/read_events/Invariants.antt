@@ -5,10 +5,10 @@ use Rattle.trace_text.proofs.event.read_events.Given as goal
 
 abbrev pub invariant-events : goal.invariant-events
 invariant-events l = record {
-  within : l.place ≤ length l.bytes;
-  few : length l.events.items ≤ l.place;
-  same : events_from l.places [] (items l.bytes l.from) ≡ events_from l.places l.events.items (items l.bytes l.place);
+  within : l.offset ≤ length l.bytes;
+  few : length l.events.items ≤ l.offset;
+  same : events_from l.places [] (items l.bytes l.from) ≡ events_from l.places l.events.items (items l.bytes l.offset);
 }
 
 abbrev pub decreases-events : goal.decreases-events
-decreases-events l = length l.bytes - l.place
+decreases-events l = length l.bytes - l.offset
