@@ -23,7 +23,8 @@ use Rattle.flip_rules.specs.declared.flip.Flip.{Flip}
 use Rattle.flip_rules.proofs.Links.{side, side_of, listed-join_boundary, same_lists_is}
 use Rattle.stars.specs.StarViews.{VertexStar, IsStar}
 use Rattle.stars.specs.Candidates.{flip_of, opposite, is_candidate, faces_at, candidate_faces, IsListOf}
-use Rattle.stars.proofs.Gathered.{apart, has-less, length_less, sorted_less, sorted_opposite}
+use Rattle.complex_core.proofs.Members.{has-less, sorted_less}
+use Rattle.stars.proofs.Gathered.{apart, length_less, sorted_opposite}
 use Rattle.complex_core.proofs.SetLists.{of_kind}
 use Rattle.stars.proofs.Listing.{Stands, stands}
 use Rattle.anneal_plan.specs.Proposals.{inner, chosen}

@@ -6,7 +6,7 @@ pub link_of-requires-clause-used : goal.link_of-requires-clause-used
 link_of-requires-clause-used c = vertex_used c.args.lists.now _ c.loop-list.list-index c.list-item.result c.requires.vertices c.loop-list-test.true c.list-item.is
 
 pub returns-in-Bad : goal.returns-in-Bad
-returns-in-Bad c = link_breaks c.args.complex.now c.args.lists.now c.loop-list.list-index c.list-item.result c.in_ok-more.field-0 c.loop-list.flips c.in-Bad.index c.in_ok-number-in-Bad.index c.in-Bad.fault c.requires.vertices c.loop-list.invariant
+returns-in-Bad c = link_breaks c.args.complex.now c.args.lists.now c.loop-list.list-index c.list-item.result c.in_ok-more.field-0 c.loop-list.flips c.in-Bad.number c.in_ok-number-in-Bad.number c.in-Bad.fault c.requires.vertices c.loop-list.invariant
     (judged c.args.complex.now c.in_ok-link.link c.args.lists.now c.loop-list.list-index c.list-item.result c.deref.result.now c.in_ok-more.field-0 c.loop-list-test.true c.list-item.is c.in_ok-link.ensures c.deref.ensures.value c.in_ok-more.ensures)
     c.in-Bad.is c.in_ok-number-in-Bad.ensures
 
