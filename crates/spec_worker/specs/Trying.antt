@@ -18,7 +18,7 @@ use Rattle.round_rules.specs.Own.{ReplaysOn, BlockedOn, EntersNext, OtherRefused
 use Rattle.round_rules.specs.Tasks.{Task, place_of, turns_of}
 use Rattle.round_rules.specs.declared.tried.Tried.{Tried}
 use Rattle.spec_worker.specs.Workers.{ArePlaces}
-use Rattle.spec_worker.specs.declared.turns.TryPlan.{TryPlan}
+use Rattle.spec_worker.specs.declared.turning.TryPlan.{TryPlan}
 use Rattle.round_rules.specs.declared.tried.Tried.TheVariants.{Committed, Busy, Nothing, Blocked, Declined, Quit, NoMemory}
 
 -- the story is that of the task: it begins at the task's place, and may claim the labels of the flips that the task proposes at the star found there
