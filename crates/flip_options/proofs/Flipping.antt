@@ -1,15 +1,16 @@
 -- Which legal flips stay so after a flip.
-use Rattle.std.proofs.Common.{◌≡◌, ℕ, Bool, true, false, ◌||◌, ◌&&◌, List, Ok, sym, ◌∙◌, ap, refl, arith, ◌⊎◌, inl, inr}
+use Rattle.std.proofs.Common.{◌≡◌, ℕ, true, false, ◌&&◌, List, Ok, sym, ◌∙◌, ap, refl, subst, arith, ◌⊎◌, inl, inr}
 use Rattle.std.specs.Cmp.{first_so, second_so}
 use Rattle.std.specs.Cmp.Derive.{both_true}
 use Rattle.std.specs.BTreeMap.{get}
+use Rattle.std.specs.List.Sorted.{IsStrictlySortedBy}
 use Rattle.std.specs.Ordering.{nat_cmp}
 use Rattle.std.proofs.lemmas.List.Kept.{IsStrictlySortedBy-filter}
 use Rattle.complex_core.specs.Labels.{has, holds, union, without, face_cmp}
 use Rattle.complex_core.specs.Complexes.{ComplexView, IsComplex, over, is_held, is_facet}
 use Rattle.complex_core.proofs.Sets.{above_tail}
 use Rattle.complex_core.proofs.Runs.{held_alike}
-use Rattle.complex_core.proofs.Laws.{both_ways, listed, listed-filter, same_lists, some_listed}
+use Rattle.complex_core.proofs.Laws.{both_ways, holds_has, listed, listed-filter, same_labels, same_lists, some_listed}
 use Rattle.flip_rules.specs.Flips.{OfFaces, broken_rule, flipped, Legal}
 use Rattle.flip_rules.specs.declared.flip.Flip.{Flip}
 use Rattle.flip_rules.proofs.Links.{side}
@@ -19,7 +20,9 @@ use Rattle.pseudo_test.proofs.Incident.{found_set}
 use Rattle.flip_laws.proofs.Exchange.{Exchange, turned, made_exchange}
 use Rattle.descent_laws.specs.Descents.{IsReducing}
 use Rattle.descent_laws.proofs.Reducing.{side_there}
-use Rattle.flip_options.specs.Candidates.{Candidates, key_cmp, key_of, flip_from, IsRight, IsPart, IsLinked, MeetsChanged}
+use Rattle.flip_options.specs.Candidates.{Candidates, key_cmp, key_of, flip_from, IsRight, IsPart, IsLinked, MeetsSide}
+use Rattle.flip_options.specs.Changes.{StayBeside, FlipsStay}
+use Rattle.flip_options.proofs.Joining.{holds_itself, union_second}
 use Rattle.std.proofs.lemmas.Bool.{false_from_ne_true}
 use Rattle.complex_core.proofs.SubsetLists.{two, clash}
 
@@ -88,50 +91,57 @@ part_of k l w c d n t r =
     let h : Legal k c d = legal k c d r.legal in
     record { face = r.faces.first; part = t; some = omega (arith, h.shape.first); few = omega (arith, h.shape.sizes, r.high, n) }
 
-meets_of : (k l : ComplexView) (w a b c d : List ℕ) → k.dim ≡ l.dim → over k.facets c ≡ over l.facets c → (holds w d && (holds d a || holds d b)) ≡ true → IsReducing k (flip_from c d) → MeetsChanged l w a b c
-meets_of k l w a b c d n same t r =
-    let h : Legal k c d = legal k c d r.legal in
+-- a B that has a set which is no face is that set, since the labels of B but one are in a facet
+only_side : (k : ComplexView) (c d b : List ℕ) → IsReducing k (flip_from c d) → ((f : List ℕ) → listed k.facets f ≡ true → holds f b ≡ false) → IsStrictlySortedBy nat_cmp b → holds d b ≡ true → d ≡ b
+only_side k c d b r free s t = same_labels d b (above_tail nat_cmp 0 d r.faces.second.rising) s (λ z. both_ways (has d z) (has b z) (λ u. inside z u (two (has b z))) (λ u. holds_has d b z t u))
+  where
+    inside : (z : ℕ) → has d z ≡ true → (has b z ≡ true) ⊎ (has b z ≡ false) → has b z ≡ true
+    inside z u (inl p) = p
+    inside z u (inr out) = clash (holds (side c d z) b) (holds_through (side c d z) (without d z) b (union_second c (without d z)) (holds_less d b z t out)) (free (side c d z) ((linked k k c d refl r).there z u))
+
+-- so a flip outside the changed part goes only where its B is what came in
+stays_beside : (k l : ComplexView) (a b w c d : List ℕ) → Exchange k.facets l.facets a b w → k.dim ≡ l.dim → IsStrictlySortedBy nat_cmp b → holds w c ≡ false → IsReducing k (flip_from c d) → (d ≡ b → ⊥) → IsReducing l (flip_from c d)
+stays_beside k l a b w c d e n s out r other = reducing_stays k l a b w c d e n out (false_from_ne_true (holds w d && holds d b) (λ t. other (only_side k c d b r e.old.free s (second_so (holds w d) (holds d b) t)))) r
+
+pub flips_stay : FlipsStay
+flips_stay k f h faces t =
+    let e : Exchange k.facets (flipped k f.a f.b).facets f.a f.b (union f.a f.b) = made_exchange k f.a f.b h faces.first faces.second (legal k f.a f.b t) in
     record {
-      other = d;
-      linked = linked k l c d same r;
-      changed = record { face = r.faces.second; part = first_so (holds w d) (holds d a || holds d b) t; side = second_so (holds w d) (holds d a || holds d b) t };
-      some = omega (arith, h.shape.first);
-      few = omega (arith, h.shape.sizes, r.high, n);
-      sizes = omega (arith, h.shape.sizes, n);
+      goes = λ c d out r other. stays_beside k (flipped k f.a f.b) f.a f.b (union f.a f.b) c d e refl (above_tail nat_cmp 0 f.b faces.second.rising) out r other;
+      comes = λ c d out r other. stays_beside (flipped k f.a f.b) k f.b f.a (union f.a f.b) c d (turned k.facets (flipped k f.a f.b).facets f.a f.b (union f.a f.b) e) refl (above_tail nat_cmp 0 f.a faces.first.rising) out r other;
     }
 
-neither_first : (p q r : Bool) → (p && (q || r)) ≡ false → (p && q) ≡ false
-neither_first true true r h = h
-neither_first true false r h = refl
-neither_first false q r h = refl
+meets_of : (k l : ComplexView) (b c d : List ℕ) → k.dim ≡ l.dim → over k.facets c ≡ over l.facets c → d ≡ b → IsReducing k (flip_from c d) → MeetsSide l b c
+meets_of k l b c d n same q r =
+    let h : Legal k c d = legal k c d r.legal in
+    let P : List ℕ → Type 0 = λ s. MeetsSide l s c in
+    subst P q (record { linked = linked k l c d same r; few = omega (arith, h.shape.sizes, r.high, n); sizes = omega (arith, h.shape.sizes, n) })
 
-neither_second : (p q r : Bool) → (p && (q || r)) ≡ false → (p && r) ≡ false
-neither_second true true r h = clash true refl h
-neither_second true false r h = h
-neither_second false q r h = refl
+not_side : (d b : List ℕ) → holds d b ≡ false → d ≡ b → ⊥
+not_side d b f q = clash (holds d b) (ap (λ s. holds s b) q ∙ holds_itself b) f
 
--- a table that was right before the flip is right after it, where the parts of the changed part and what meets it were looked at
-step_right : (k l : ComplexView) (a b w c : List ℕ) (was now : Candidates) → Exchange k.facets l.facets a b w → k.dim ≡ l.dim → IsRight k was c → (get key_cmp now (key_of c) ≡ get key_cmp was (key_of c)) ⊎ IsRight l now c → (IsPart l w c → IsRight l now c) → (MeetsChanged l w a b c → IsRight l now c) → IsRight l now c
-step_right k l a b w c was now e n before (inr right) parts meets = right
-step_right k l a b w c was now e n before (inl same) parts meets = record {
+-- a table that was right before the flip is right after it, where the parts of the changed part and what meets the sides were looked at
+step_right : (k l : ComplexView) (a b c : List ℕ) (was now : Candidates) → Exchange k.facets l.facets a b (union a b) → k.dim ≡ l.dim → IsStrictlySortedBy nat_cmp a → IsStrictlySortedBy nat_cmp b → StayBeside k l a b → IsRight k was c → (get key_cmp now (key_of c) ≡ get key_cmp was (key_of c)) ⊎ IsRight l now c → (IsPart l (union a b) c → IsRight l now c) → (MeetsSide l a c → IsRight l now c) → (MeetsSide l b c → IsRight l now c) → IsRight l now c
+step_right k l a b c was now e n sa sb stay before (inr right) parts first second = right
+step_right k l a b c was now e n sa sb stay before (inl same) parts first second = record {
   sound = λ d g.
       let r : IsReducing k (flip_from c d) = before.sound d (sym same ∙ g) in
-      elim (two (holds w c)) [
-        | inl t ↦ (parts (part_of k l w c d n t r)).sound d g
-        | inr out ↦ elim (two (holds w d && (holds d a || holds d b))) [
-          | inl t ↦ (meets (meets_of k l w a b c d n (over_stays k.facets l.facets a b w c e out) t r)).sound d g
-          | inr f ↦ reducing_stays k l a b w c d e n out (neither_second (holds w d) (holds d a) (holds d b) f) r
+      elim (two (holds (union a b) c)) [
+        | inl t ↦ (parts (part_of k l (union a b) c d n t r)).sound d g
+        | inr out ↦ elim (two (holds d b)) [
+          | inl t ↦ (second (meets_of k l b c d n (over_stays k.facets l.facets a b (union a b) c e out) (only_side k c d b r e.old.free sb t) r)).sound d g
+          | inr f ↦ stay.goes c d out r (not_side d b f)
         ]
       ];
   complete = λ d r.
-      elim (two (holds w c)) [
-        | inl t ↦ (parts (part_of l l w c d refl t r)).complete d r
-        | inr out ↦ elim (two (holds w d && (holds d a || holds d b))) [
-          | inl t ↦ (meets (meets_of l l w a b c d refl refl t r)).complete d r
-          | inr f ↦ same ∙ before.complete d (reducing_stays l k b a w c d (turned k.facets l.facets a b w e) (sym n) out (neither_first (holds w d) (holds d a) (holds d b) f) r)
+      elim (two (holds (union a b) c)) [
+        | inl t ↦ (parts (part_of l l (union a b) c d refl t r)).complete d r
+        | inr out ↦ elim (two (holds d a)) [
+          | inl t ↦ (first (meets_of l l a c d refl refl (only_side l c d a r e.new.free sa t) r)).complete d r
+          | inr f ↦ same ∙ before.complete d (stay.comes c d out r (not_side d a f))
         ]
       ];
 }
 
-pub flip_right : (k : ComplexView) (f : Flip) (c : List ℕ) (was now : Candidates) → IsComplex k → OfFaces f → broken_rule k f.a f.b ≡ Ok tt → IsRight k was c → (get key_cmp now (key_of c) ≡ get key_cmp was (key_of c)) ⊎ IsRight (flipped k f.a f.b) now c → (IsPart (flipped k f.a f.b) (union f.a f.b) c → IsRight (flipped k f.a f.b) now c) → (MeetsChanged (flipped k f.a f.b) (union f.a f.b) f.a f.b c → IsRight (flipped k f.a f.b) now c) → IsRight (flipped k f.a f.b) now c
-flip_right k f c was now h faces t before each parts meets = step_right k (flipped k f.a f.b) f.a f.b (union f.a f.b) c was now (made_exchange k f.a f.b h faces.first faces.second (legal k f.a f.b t)) refl before each parts meets
+pub flip_right : (k : ComplexView) (f : Flip) (c : List ℕ) (was now : Candidates) → IsComplex k → OfFaces f → broken_rule k f.a f.b ≡ Ok tt → IsRight k was c → (get key_cmp now (key_of c) ≡ get key_cmp was (key_of c)) ⊎ IsRight (flipped k f.a f.b) now c → (IsPart (flipped k f.a f.b) (union f.a f.b) c → IsRight (flipped k f.a f.b) now c) → (MeetsSide (flipped k f.a f.b) f.a c → IsRight (flipped k f.a f.b) now c) → (MeetsSide (flipped k f.a f.b) f.b c → IsRight (flipped k f.a f.b) now c) → IsRight (flipped k f.a f.b) now c
+flip_right k f c was now h faces t before each parts first second = step_right k (flipped k f.a f.b) f.a f.b c was now (made_exchange k f.a f.b h faces.first faces.second (legal k f.a f.b t)) refl (above_tail nat_cmp 0 f.a faces.first.rising) (above_tail nat_cmp 0 f.b faces.second.rising) (flips_stay k f h faces t) before each parts first second

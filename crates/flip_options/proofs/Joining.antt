@@ -1,24 +1,26 @@
 -- The labels of a set and of the facets over it.
-use Rattle.std.proofs.Common.{◌≡◌, ◌≢◌, ℕ, ◌+◌, ◌<◌, ◌≤◌, zero, suc, Bool, true, false, not, nat_eq, ◌||◌, ◌&&◌, List, [], ◌∷◌, length, take, get_or, sym, ◌∙◌, ap, refl, subst, arith, ◌⊎◌, inl, inr}
+use Rattle.std.proofs.Common.{◌≡◌, ◌≢◌, ℕ, ◌+◌, ◌<◌, ◌≤◌, zero, suc, Bool, true, false, not, cond, nat_eq, ◌||◌, ◌&&◌, List, [], ◌∷◌, length, take, get_or, sym, ◌∙◌, ap, refl, subst, arith, ◌⊎◌, inl, inr}
 use Rattle.std.specs.List.Sorted.{IsStrictlySortedBy}
 use Rattle.std.specs.Ordering.{nat_cmp}
 use Rattle.std.specs.Cmp.{first_so, second_so}
 use Rattle.std.specs.Cmp.Derive.{both_true}
 use Rattle.std.specs.Cmp.Lexicographic.{pointwise}
 use Rattle.std.proofs.lemmas.Bool.{cases_lt, false_from_ne_true, or_cases}
-use Rattle.std.proofs.lemmas.List.{take_more}
+use Rattle.std.proofs.lemmas.List.{take_more, take_all}
+use Rattle.std.proofs.lemmas.List.Filters.{length-filter_more}
 use Rattle.complex_core.specs.Labels.{IsFace, has, holds, union, without}
 use Rattle.complex_core.specs.Links.{less}
 use Rattle.complex_core.specs.Complexes.{ComplexView, over, is_facet}
 use Rattle.complex_core.proofs.Sets.{above_tail}
 use Rattle.complex_core.proofs.SubsetLists.{fewer, clash}
-use Rattle.complex_core.proofs.Laws.{both_ways, has-union, holds_has, holds_each, or_left, or_right, listed, listed-filter, listed-append, same_labels, same_set_itself, sorted_union, length-union_apart}
+use Rattle.complex_core.proofs.Laws.{both_ways, has-union, holds_has, holds_each, or_left, or_right, listed, listed-filter, listed-append, nat_eq_is, same_labels, same_set_itself, sorted_union, length-union_apart}
 use Rattle.flip_rules.specs.Flips.{Legal}
 use Rattle.flip_rules.proofs.Links.{side}
 use Rattle.flip_rules.proofs.Legal.{legal}
 use Rattle.pseudo_test.proofs.Subsets.{holds_through}
 use Rattle.descent_laws.specs.Descents.{IsReducing}
 use Rattle.descent_laws.proofs.Reducing.{other_label, side_there, side_back, two_at_least}
+use Rattle.descent_laws.proofs.Falling.{many_sides}
 use Rattle.flip_options.specs.Candidates.{HoldsOver, IsJoin, TooMany, flip_from}
 use Rattle.complex_core.proofs.Members.{without_has, in_without, sorted_less, has-less}
 use Rattle.stars.proofs.Flipping.{labels_held}
@@ -31,7 +33,7 @@ pub record JoinSoFar (rows : List (List ℕ)) (set : List ℕ) (i : ℕ) (all : 
   pub each : (f : List ℕ) → is_facet (over (take i rows) set) f ≡ true → holds all f ≡ true
   pub least : (w : List ℕ) → HoldsOver rows set w → holds w all ≡ true
 
-holds_itself : (f : List ℕ) → holds f f ≡ true
+pub holds_itself : (f : List ℕ) → holds f f ≡ true
 holds_itself f = holds_each f f (λ z t. t)
 
 -- a row over the set, before the next place, stands there or earlier
@@ -55,7 +57,7 @@ over_at rows set i row l e h = listed-filter (λ g. holds g set) rows row ∙ bo
 union_first : (f g : List ℕ) → holds (union f g) f ≡ true
 union_first f g = holds_each (union f g) f (λ z t. has-union f g z ∙ or_left (has f z) (has g z) t)
 
-union_second : (f g : List ℕ) → holds (union f g) g ≡ true
+pub union_second : (f g : List ℕ) → holds (union f g) g ≡ true
 union_second f g = holds_each (union f g) g (λ z t. has-union f g z ∙ or_right (has f z) (has g z) t)
 
 pub so_far_start : (rows : List (List ℕ)) (set : List ℕ) → IsFace set → JoinSoFar rows set 0 set
@@ -90,21 +92,35 @@ too_many rows set i row all most j l e h many w s n g =
 pub so_far_end : (rows : List (List ℕ)) (set : List ℕ) (i : ℕ) (all : List ℕ) → JoinSoFar rows set i all → length rows ≤ i → IsJoin rows set all
 so_far_end rows set i all j l = record {
   face = j.face;
-  has = record { own = j.own; each = λ f t. j.each f (ap (λ gs. is_facet (over gs set) f) (take_all rows i l) ∙ t) };
+  has = record { own = j.own; each = λ f t. j.each f (ap (λ gs. is_facet (over gs set) f) (take_all i rows l) ∙ t) };
   least = j.least;
 }
-  where
-    take_all : (rows : List (List ℕ)) (i : ℕ) → length rows ≤ i → take i rows ≡ rows
-    take_all [] zero l = refl
-    take_all [] (suc i) l = refl
-    take_all (x ∷ xs) zero l = absurd (omega (arith, l))
-    take_all (x ∷ xs) (suc i) l = ap (λ gs. x ∷ gs) (take_all xs i (omega (arith, l)))
 
 above_most : (n m : ℕ) → (n ≤ 8 → ⊥) → m ≤ 8 → m < n
 above_most n m h l = elim (cases_lt m n) [ inl p ↦ p | inr p ↦ absurd (h (omega (arith, p, l))) ]
 
 pub none_joined : (rows : List (List ℕ)) (set : List ℕ) (i : ℕ) (row all : List ℕ) (most : ℕ) → JoinSoFar rows set i all → i < length rows → row ≡ get_or rows i row → holds row set ≡ true → most ≤ 8 → (length (union all row) ≤ 8 → ⊥) → TooMany rows set most
 none_joined rows set i row all most j l e h m n = too_many rows set i row all most j l e h (above_most (length (union all row)) most n m)
+
+-- ---- how many rows there are
+
+over_more : (rows : List (List ℕ)) (set : List ℕ) (i : ℕ) (row : List ℕ) → i < length rows → row ≡ get_or rows i row → length (over (take (i + 1) rows) set) ≡ length (over (take i rows) set) + cond (holds row set) 1 0
+over_more rows set i row l e = length-filter_more (λ f. holds f set) rows i row l ∙ ap (λ f. length (over (take i rows) set) + cond (holds f set) 1 0) (sym e)
+
+over_within : (rows : List (List ℕ)) (set : List ℕ) (i : ℕ) → length (over (take i rows) set) ≤ length (over rows set)
+over_within rows set zero = omega arith
+over_within [] set (suc i) = omega arith
+over_within (x ∷ xs) set (suc i) =
+    elim (holds x set) as (λ c. length (cond c (x ∷ over (take i xs) set) (over (take i xs) set)) ≤ length (cond c (x ∷ over xs set) (over xs set))) [
+      | true ↦ omega (arith, over_within xs set i)
+      | false ↦ over_within xs set i
+    ]
+
+-- one row more than so many
+pub too_many_rows : (rows : List (List ℕ)) (set : List ℕ) (i : ℕ) (row : List ℕ) (found count : ℕ) → found ≡ length (over (take i rows) set) → i < length rows → row ≡ get_or rows i row → holds row set ≡ true → found ≡ count → false ≡ nat_eq (length (over rows set)) count
+too_many_rows rows set i row found count s l e t n = sym (false_from_ne_true (nat_eq (length (over rows set)) count) (λ q.
+    let same : length (over rows set) ≡ count = nat_eq_is (length (over rows set)) count q in
+    absurd (omega (arith, s, over_more rows set i row l e, ap {B = ℕ} (λ c. cond c 1 0) t, over_within rows set (i + 1), n, same))))
 
 -- ---- the B of a legal flip
 
@@ -161,3 +177,9 @@ less_is k a b all e r =
 
 pub long_join : (all row more : List ℕ) (most n : ℕ) → most < n → n ≡ length more → more ≡ union all row → most < length (union all row)
 long_join all row more most n l e is = omega (arith, l, e, ap length is)
+
+-- there is a facet over A for each label of B
+pub rows_over : (k : ComplexView) (a b : List ℕ) → IsReducing k (flip_from a b) → length (over k.facets a) ≡ length b
+rows_over k a b r =
+    let l : Legal k a b = legal k a b r.legal in
+    ap length l.link ∙ many_sides a b l.shape.apart b (above_tail nat_cmp 0 b r.faces.second.rising) (λ x t. t)

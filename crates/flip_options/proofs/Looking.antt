@@ -1,26 +1,24 @@
 -- Which faces were looked at again so far, in each loop.
-use Rattle.std.proofs.Common.{◌≡◌, ℕ, ◌+◌, ◌-◌, ◌<◌, ◌≤◌, zero, suc, Bool, true, false, not, nat_eq, ◌||◌, ◌&&◌, List, [], ◌∷◌, length, take, get_or, Some, sym, ◌∙◌, ap, refl, subst, arith, ◌⊎◌, inl, inr}
+use Rattle.std.proofs.Common.{◌≡◌, ℕ, ◌+◌, ◌<◌, ◌≤◌, Bool, true, false, not, nat_eq, ◌||◌, ◌&&◌, List, [], ◌∷◌, length, take, get_or, Some, sym, ◌∙◌, ap, refl, subst, arith, ◌⊎◌, inl, inr}
 use Rattle.std.specs.List.{slice_get}
 use Rattle.std.specs.List.Sorted.{IsStrictlySortedBy}
 use Rattle.std.specs.Ordering.{nat_cmp}
 use Rattle.std.specs.Cmp.{second_so}
 use Rattle.std.specs.Cmp.Derive.{both_true}
 use Rattle.std.proofs.lemmas.Bool.{cases_lt, or_cases}
-use Rattle.std.proofs.lemmas.List.{take_more}
+use Rattle.std.proofs.lemmas.List.{take_more, take_all}
 use Rattle.std.proofs.lemmas.Option.{none-some, same_Some}
 use Rattle.complex_core.proofs.Sets.{above_tail}
 use Rattle.complex_core.specs.Labels.{IsFace, has, holds, union, without}
 use Rattle.complex_core.specs.Links.{less}
 use Rattle.complex_core.specs.Complexes.{ComplexView, over, is_facet}
-use Rattle.complex_core.specs.Subsets.{IsSubset, lists}
+use Rattle.complex_core.specs.Subsets.{IsSubset}
 use Rattle.complex_core.proofs.Laws.{has-union, has-without, holds_each, or_left, or_right, listed, listed-append, listed-filter, nat_eq_same, same_labels, sorted_union, length-without}
-use Rattle.flip_rules.specs.declared.flip.Flip.{Flip}
 use Rattle.flip_rules.proofs.Links.{side}
 use Rattle.stars.specs.StarViews.{StarList, IsStarListOf, star_at, places_in}
-use Rattle.flip_options.specs.Candidates.{Candidates, Refreshed, IsPart, IsPartBelow, IsPartAt, IsLinked, IsChanged, MeetsBelow}
+use Rattle.flip_options.specs.Candidates.{Candidates, Refreshed, IsPart, IsPartBelow, IsPartAt, IsLinked}
 use Rattle.flip_options.proofs.Refreshing.{refreshed_then, refreshed_so}
-use Rattle.std.specs.Prelude.{IsTrue, ◌↔◌}
-use Rattle.flip_options.proofs.Joining.{listed_at, next_row}
+use Rattle.flip_options.proofs.Joining.{next_row}
 use Rattle.complex_core.proofs.SubsetLists.{clash}
 use Rattle.complex_core.proofs.Members.{sorted_less, has-less}
 use Rattle.descent_laws.proofs.Edges.{one_listed}
@@ -30,12 +28,6 @@ next_set xs i x f l e t = elim (or_cases (listed (take i xs) f) (listed (get_or 
   | inl p ↦ inl p
   | inr p ↦ inr (one_listed (get_or xs i x) f p ∙ sym e)
 ]
-
-take_all : (xs : List (List ℕ)) (i : ℕ) → length xs ≤ i → take i xs ≡ xs
-take_all [] zero l = refl
-take_all [] (suc i) l = refl
-take_all (x ∷ xs) zero l = absurd (omega (arith, l))
-take_all (x ∷ xs) (suc i) l = ap (λ gs. x ∷ gs) (take_all xs i (omega (arith, l)))
 
 -- ---- the parts of one size
 
@@ -78,7 +70,7 @@ first_has (y ∷ ys) x e = or_left (nat_eq y x) (has ys x) (ap (λ z. nat_eq z x
 pub star_end : (s : StarList) (m n : Candidates) (rows : List (List ℕ)) (place i : ℕ) → Refreshed s m n (λ k a. PartSoFar rows place i k a) → length rows ≤ i → rows ≡ star_at s place → 0 < place → place ≤ places_in s → Refreshed s m n (λ k a. IsPartAt k place a)
 star_end s m n rows place i p l is low high = refreshed_so s m n (λ k a. PartSoFar rows place i k a) (λ k a. IsPartAt k place a) p (λ k h a t. record {
   facet = t.facet;
-  there = ap (λ fs. is_facet fs t.facet) (take_all rows i l ∙ is ∙ h.stars place low high) ∙ listed-filter (λ g. holds g (place ∷ [])) k.facets t.facet ∙ both_true t.there (both_true (first_has t.facet place t.first) refl);
+  there = ap (λ fs. is_facet fs t.facet) (take_all i rows l ∙ is ∙ h.stars place low high) ∙ listed-filter (λ g. holds g (place ∷ [])) k.facets t.facet ∙ both_true t.there (both_true (first_has t.facet place t.first) refl);
   first = t.first;
   is = t.is;
 })
@@ -139,47 +131,9 @@ left_end s m n rows rest other shown i p l e is big face near = refreshed_so s m
     let some : 0 < length rest = omega (arith, big, ap length r, length-without other (get_or other 0 0) (above_tail nat_cmp 0 other face.rising) used) in
     record {
       facet = side a other (get_or other 0 0);
-      there = ap (λ gs. is_facet (over gs rest) (side a other (get_or other 0 0))) (take_all rows i l) ∙ ap (λ gs. is_facet gs (side a other (get_or other 0 0))) (near k h some) ∙ listed-filter (λ g. holds g rest) k.facets (side a other (get_or other 0 0)) ∙ both_true (t.there (get_or other 0 0) used) (ap (holds (side a other (get_or other 0 0))) r ∙ second_part a (without other (get_or other 0 0)));
+      there = ap (λ gs. is_facet (over gs rest) (side a other (get_or other 0 0))) (take_all i rows l) ∙ ap (λ gs. is_facet gs (side a other (get_or other 0 0))) (near k h some) ∙ listed-filter (λ g. holds g rest) k.facets (side a other (get_or other 0 0)) ∙ both_true (t.there (get_or other 0 0) used) (ap (holds (side a other (get_or other 0 0))) r ∙ second_part a (without other (get_or other 0 0)));
       is = left_is a other (get_or other 0 0) t.rising t.apart;
     })
   where
     second_part : (f g : List ℕ) → holds (union f g) g ≡ true
     second_part f g = holds_each (union f g) g (λ z t. has-union f g z ∙ or_right (has f z) (has g z) t)
-
--- ---- what is linked with the sets of one size
-
-pub record LinkedSoFar (sets : List (List ℕ)) (flip : Flip) (i : ℕ) (k : ComplexView) (a : List ℕ) : Type 0 where
-  pub set : List ℕ
-  pub there : is_facet (take i sets) set ≡ true
-  pub side : (holds set flip.a || holds set flip.b) ≡ true
-  pub linked : IsLinked k a set
-
-pub linked_next : (s : StarList) (m n o : Candidates) (sets : List (List ℕ)) (flip : Flip) (i : ℕ) (x : List ℕ) → Refreshed s m n (λ k a. LinkedSoFar sets flip i k a) → Refreshed s n o (λ k a. IsLinked k a x) → i < length sets → x ≡ get_or sets i x → Refreshed s m o (λ k a. LinkedSoFar sets flip (i + 1) k a)
-linked_next s m n o sets flip i x p q l e = refreshed_then s m n o (λ k a. LinkedSoFar sets flip i k a) (λ k a. IsLinked k a x) (λ k a. LinkedSoFar sets flip (i + 1) k a) p q (λ k h a t. elim (next_set sets i x t.set l e t.there) [
-  | inl u ↦ inl (record { set = t.set; there = u; side = t.side; linked = t.linked })
-  | inr u ↦ let P : List ℕ → Type 0 = λ b. IsLinked k a b in inr (subst P u t.linked)
-])
-
-pub linked_skip : (s : StarList) (m n : Candidates) (sets : List (List ℕ)) (flip : Flip) (i : ℕ) (x : List ℕ) → Refreshed s m n (λ k a. LinkedSoFar sets flip i k a) → holds x flip.a ≡ false → holds x flip.b ≡ false → i < length sets → x ≡ get_or sets i x → Refreshed s m n (λ k a. LinkedSoFar sets flip (i + 1) k a)
-linked_skip s m n sets flip i x p na nb l e = refreshed_so s m n (λ k a. LinkedSoFar sets flip i k a) (λ k a. LinkedSoFar sets flip (i + 1) k a) p (λ k h a t. elim (next_set sets i x t.set l e t.there) [
-  | inl u ↦ record { set = t.set; there = u; side = t.side; linked = t.linked }
-  | inr u ↦ clash (holds x flip.a || holds x flip.b) (ap (λ b. holds b flip.a || holds b flip.b) (sym u) ∙ t.side) (λ j. na j || nb j)
-])
-
-abbrev pub ChangedHere : List ℕ → Flip → ℕ → ComplexView → List ℕ → Type 0
-ChangedHere all flip size k a = (b : List ℕ) × IsChanged all flip.a flip.b b × (length b ≡ size) × IsLinked k a b
-
--- ---- what is linked with the sets of all sizes
-
-pub links_next : (s : StarList) (m n o : Candidates) (all : List ℕ) (flip : Flip) (size other : ℕ) → Refreshed s m n (λ k a. MeetsBelow size k all flip.a flip.b a) → Refreshed s n o (λ k a. ChangedHere all flip other k a) → ((k : ComplexView) → IsStarListOf k s → size + other ≡ k.dim + 2) → Refreshed s m o (λ k a. MeetsBelow (size + 1) k all flip.a flip.b a)
-links_next s m n o all flip size other p q d = refreshed_then s m n o (λ k a. MeetsBelow size k all flip.a flip.b a) (λ k a. ChangedHere all flip other k a) (λ k a. MeetsBelow (size + 1) k all flip.a flip.b a) p q (λ k h a t. elim (cases_lt (length a) size) [
-  | inl l ↦ inl (record { meets = t.meets; high = l })
-  | inr g ↦ inr (t.meets.other, t.meets.changed, omega (arith, g, t.high, t.meets.sizes, d k h), t.meets.linked)
-])
-
--- a set that is listed has its size
-pub listed_size : (xs shown : List (List ℕ)) (i : ℕ) (x set : List ℕ) (size : ℕ) → shown ≡ xs → i < length shown → x ≡ get_or shown i x → ((f : List ℕ) → IsTrue (lists xs f) ↔ IsSubset set size f) → 2 ≤ size → 2 ≤ length x
-listed_size xs shown i x set size e l at h big = omega (arith, (((h x).0) (ap (λ ys. lists ys x) (sym e) ∙ listed_at shown i x l at)).size, big)
-
-pub size_left : (s : StarList) (d size end : ℕ) → d ≡ s.dim → size < end + 1 → ((k : ComplexView) → IsStarListOf k s → (end + end ≤ k.dim + 1) × (k.dim ≤ end + end) × (end ≤ 3)) → (k : ComplexView) → IsStarListOf k s → size + (d + 2 - size) ≡ k.dim + 2
-size_left s d size end e l h k i = omega (arith, e, i.dim, l, (h k i).0)

@@ -18,7 +18,7 @@ use Rattle.stars.specs.StarViews.{StarList, IsStarListOf, places_in}
 use Rattle.descent_laws.specs.Descents.{IsReducing, IsMinimal, IsBest, AreCandidates}
 use Rattle.descent_laws.proofs.Reducing.{two_at_least}
 use Rattle.descent_laws.proofs.Candidates.{first_is_best, none_is_minimal}
-use Rattle.flip_options.specs.Candidates.{Candidates, key_cmp, key_of, flip_from, flips_of, is_sized, Refreshed, IsPart, MeetsChanged}
+use Rattle.flip_options.specs.Candidates.{Candidates, key_cmp, key_of, flip_from, flips_of, is_sized, Refreshed, IsPart, MeetsSide}
 use Rattle.flip_options.specs.OptionViews.{AreOptions, IsStep}
 use Rattle.flip_options.proofs.Entries.{right_from, candidates_made}
 use Rattle.flip_options.proofs.Refreshing.{refreshed_then}
@@ -82,19 +82,21 @@ step_fits k o s f h =
 candidates_of : (k : ComplexView) (o : Option (List Flip)) (flips : List Flip) → AreOptions k o → o ≡ Some flips → AreCandidates k flips
 candidates_of k o flips h e = let P : List Flip → Type 0 = λ fs. AreCandidates k fs in subst P (same_Some h.flips flips (sym h.kept ∙ e)) h.all
 
-pub after_made : (s : StarList) (f : Flip) (o : Option (List Flip)) (was mid now : Candidates) (all : List ℕ) → o ≡ Some (flips_of was) → is_sized was ≡ true → all ≡ union f.a f.b → Refreshed s was mid (λ k a. IsPart k all a) → Refreshed s mid now (λ k a. MeetsChanged k all f.a f.b a) → IsOrdered key_cmp now → (k : ComplexView) → IsStep k o s f → AreOptions (flipped k f.a f.b) (Some (flips_of now))
-after_made s f o was mid now all e sized is p q order k h =
+pub after_made : (s : StarList) (f : Flip) (o : Option (List Flip)) (was mid next now : Candidates) (all : List ℕ) → o ≡ Some (flips_of was) → is_sized was ≡ true → all ≡ union f.a f.b → Refreshed s was mid (λ k a. IsPart k all a) → Refreshed s mid next (λ k a. MeetsSide k f.a a) → Refreshed s next now (λ k a. MeetsSide k f.b a) → IsOrdered key_cmp now → (k : ComplexView) → IsStep k o s f → AreOptions (flipped k f.a f.b) (Some (flips_of now))
+after_made s f o was mid next now all e sized is_union p q r order k h =
     let c : AreCandidates k (flips_of was) = candidates_of k o (flips_of was) h.had e in
-    let r : Refreshed s was now (λ l a. IsPart l all a ⊎ MeetsChanged l all f.a f.b a) = refreshed_then s was mid now (λ l a. IsPart l all a) (λ l a. MeetsChanged l all f.a f.b a) (λ l a. IsPart l all a ⊎ MeetsChanged l all f.a f.b a) p q (λ l i a t. t) in
+    let Sides : ComplexView → List ℕ → Type 0 = λ l a. MeetsSide l f.a a ⊎ MeetsSide l f.b a in
+    let sides : Refreshed s mid now Sides = refreshed_then s mid next now (λ l a. MeetsSide l f.a a) (λ l a. MeetsSide l f.b a) Sides q r (λ l i a t. t) in
+    let whole : Refreshed s was now (λ l a. IsPart l all a ⊎ Sides l a) = refreshed_then s was mid now (λ l a. IsPart l all a) Sides (λ l a. IsPart l all a ⊎ Sides l a) p sides (λ l i a t. t) in
     record {
       flips = flips_of now;
       kept = refl;
-      all = candidates_made (flipped k f.a f.b) now order (r.sized sized) (λ a.
+      all = candidates_made (flipped k f.a f.b) now order (whole.sized sized) (λ a.
           let P : List ℕ → Type 0 = λ w. IsPart (flipped k f.a f.b) w a in
-          let Q : List ℕ → Type 0 = λ w. MeetsChanged (flipped k f.a f.b) w f.a f.b a in
-          flip_right k f a was now h.complex h.faces h.legal (right_from k was sized c a) (r.each (flipped k f.a f.b) h.after a)
-          (λ t. r.done (flipped k f.a f.b) h.after a (inl (subst P (sym is) t)))
-          (λ t. r.done (flipped k f.a f.b) h.after a (inr (subst Q (sym is) t))));
+          flip_right k f a was now h.complex h.faces h.legal (right_from k was sized c a) (whole.each (flipped k f.a f.b) h.after a)
+          (λ t. whole.done (flipped k f.a f.b) h.after a (inl (subst P (sym is_union) t)))
+          (λ t. whole.done (flipped k f.a f.b) h.after a (inr (inl t)))
+          (λ t. whole.done (flipped k f.a f.b) h.after a (inr (inr t))));
     }
 
 -- ---- the best

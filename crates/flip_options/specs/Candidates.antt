@@ -1,5 +1,5 @@
 -- The table from A to B that holds the candidates, and what it knows of a complex.
-use Rattle.std.specs.Prelude.{◌≡◌, ℕ, ◌+◌, ◌*◌, ◌<◌, ◌≤◌, ◌⊎◌, Bool, true, false, ◌||◌, nat_eq, List, length, map, Option, Some, None}
+use Rattle.std.specs.Prelude.{◌≡◌, ℕ, ◌+◌, ◌*◌, ◌<◌, ◌≤◌, ◌⊎◌, Bool, true, false, nat_eq, List, length, map, Option, Some, None}
 use Rattle.std.specs.List.{list_all, slice_get}
 use Rattle.std.specs.List.Sorted.{IsStrictlySortedBy}
 use Rattle.std.specs.Ordering.{nat_cmp, ordering_then}
@@ -98,22 +98,8 @@ pub record IsLinked (k : ComplexView) (a b : List ℕ) : Type 0 where
   pub apart : (x : ℕ) → has a x ≡ true → has b x ≡ false
   pub there : (x : ℕ) → has b x ≡ true → is_facet k.facets (union a (without b x)) ≡ true
 
--- B lies in the changed part, and has all of one side of the flip
-pub record IsChanged (all a b set : List ℕ) : Type 0 where
-  pub face : IsFace set
-  pub part : holds all set ≡ true
-  pub side : (holds set a || holds set b) ≡ true
-
--- linked with such a B
-pub record MeetsChanged (k : ComplexView) (all a b face : List ℕ) : Type 0 where
-  pub other : List ℕ
-  pub linked : IsLinked k face other
-  pub changed : IsChanged all a b other
-  pub some : 0 < length face
+-- linked with a side of a flip, which has the labels that are left for the B of a flip of an index above d/2
+pub record MeetsSide (k : ComplexView) (side face : List ℕ) : Type 0 where
+  pub linked : IsLinked k face side
   pub few : 2 * length face < k.dim + 2
-  pub sizes : length face + length other ≡ k.dim + 2
-
--- the same, where the face has fewer than so many labels
-pub record MeetsBelow (most : ℕ) (k : ComplexView) (all a b face : List ℕ) : Type 0 where
-  pub meets : MeetsChanged k all a b face
-  pub high : length face < most
+  pub sizes : length face + length side ≡ k.dim + 2

@@ -9,6 +9,7 @@
 mod candidates;
 mod descended;
 mod descent;
+mod laws;
 mod options;
 mod partner;
 mod refresh;
@@ -16,4 +17,5 @@ mod smallest_star;
 
 pub use descended::Descended;
 pub use descent::descend;
+pub use laws::change_law;
 pub use options::Options;

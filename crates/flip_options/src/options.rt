@@ -7,7 +7,7 @@ ghost use Rattle.descent_laws.specs.Descents.{IsMinimal, IsBest};
 ghost use Rattle.flip_options.specs.OptionViews.{AreOptions, IsStep};
 
 use crate::candidates::{Candidates, first_flip};
-use crate::refresh::{refresh_links, refresh_parts, refresh_star};
+use crate::refresh::{refresh_parts, refresh_side, refresh_star};
 use flip_rules::Flip;
 use stars::StarMap;
 use std::alloc::{AllocError, Global};
@@ -54,8 +54,9 @@ impl Options {
 
     /// The options after a legal flip: those that [`Options::of`] gives of the stars after it.
     ///
-    /// It costs the stars of the flip's labels, and not the size of the complex. Without memory the
-    /// options are given up.
+    /// Only the parts of the flip's labels are looked at, and what is linked with one of its sides: no
+    /// other flip comes or goes. That costs the stars of these labels, and not the size of the complex.
+    /// Without memory the options are given up.
     pub fn after(&mut self, stars: &StarMap, flip: &Flip) -> Result<(), AllocError>
         requires { (k : ComplexView) × IsStep k self.old stars.now flip.now }
         ensures ok { (k : ComplexView) → IsStep k self.old stars.now flip.now →
@@ -70,7 +71,8 @@ impl Options {
             unreachable!()
         };
         refresh_parts(alloc, &mut candidates, stars, &all)?;
-        refresh_links(alloc, &mut candidates, stars, flip, &all)?;
+        refresh_side(&mut candidates, stars, &flip.a)?;
+        refresh_side(&mut candidates, stars, &flip.b)?;
         let _ordered = candidates.len();
         self.candidates = Some(candidates);
         Ok(())

@@ -3,7 +3,7 @@ ghost use Rattle.complex_core.specs.Complexes.{ComplexView};
 ghost use Rattle.stars.specs.StarViews.{IsStarListOf};
 ghost use Rattle.flip_options.specs.Candidates.{Decides};
 
-use crate::smallest_star::{labels_over, near};
+use crate::smallest_star::{are_over, labels_over, near};
 use complex_core::Face;
 use flip_rules::{Flip, check_near};
 use stars::StarMap;
@@ -19,6 +19,10 @@ pub(crate) fn partner(stars: &StarMap, face: &Face) -> Option<Face>
         return None;
     }
     let near_a = near(stars, face);
+    // A flip takes out a facet for each label of B. Nearly all faces have more, or fewer.
+    if !are_over(near_a, face, dim + 2 - face.len()) {
+        return None;
+    }
     let Some(all) = labels_over(near_a, face, dim + 2) else {
         return None;
     };

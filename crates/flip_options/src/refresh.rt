@@ -3,12 +3,11 @@ ghost use Rattle.std.specs.Prelude.{◌≡◌, ◌↔◌, ℕ, ◌+◌, ◌<◌,
 ghost use Rattle.complex_core.specs.Complexes.{ComplexView};
 ghost use Rattle.complex_core.specs.Subsets.{IsSubset};
 ghost use Rattle.stars.specs.StarViews.{IsStarListOf, places_in};
-ghost use Rattle.flip_options.specs.Candidates.{Refreshed, IsPart, IsPartAt, IsLinked, IsChanged, MeetsChanged};
+ghost use Rattle.flip_options.specs.Candidates.{Refreshed, IsPart, IsPartAt, IsLinked, MeetsSide};
 
 use crate::candidates::{Candidates, refresh};
 use crate::smallest_star::near;
 use complex_core::Face;
-use flip_rules::Flip;
 use stars::StarMap;
 use std::alloc::{AllocError, Global};
 
@@ -102,44 +101,18 @@ fn refresh_partners(
     Ok(())
 }
 
-// Looks again at what is linked with the sets of so many labels in the changed part, where these have
-// all of A or of B of the flip. Other sets are faces where they were.
-fn refresh_changed(
-    alloc: Global,
+/// Looks again at each A that is linked with a side of a flip as its B. A flip of an index above d/2
+/// has more than half of the labels in B, so that a side with fewer is no such B.
+pub(crate) fn refresh_side(
     candidates: &mut Candidates,
     stars: &StarMap,
-    flip: &Flip,
-    all: &Face,
-    size: usize,
-) -> Result<(), AllocError>
-    requires stars { (k : ComplexView) × IsStarListOf k stars.now }
-    requires some { 2 ≤ size }
-    ensures { OnOk result (Refreshed stars.now candidates.old candidates.new (λ k a.
-        (b : List ℕ) × IsChanged all.now flip.now.a flip.now.b b × (length b ≡ size) × IsLinked k a b)) }
-{
-    for set in &all.subsets(alloc, size)? {
-        if set.holds(&flip.a) || set.holds(&flip.b) {
-            refresh_partners(candidates, stars, set)?;
-        }
-    }
-    Ok(())
-}
-
-/// Looks again at each A that is linked with a B in the changed part.
-pub(crate) fn refresh_links(
-    alloc: Global,
-    candidates: &mut Candidates,
-    stars: &StarMap,
-    flip: &Flip,
-    all: &Face,
+    side: &Face,
 ) -> Result<(), AllocError>
     requires { (k : ComplexView) × IsStarListOf k stars.now }
-    ensures { OnOk result (Refreshed stars.now candidates.old candidates.new (λ k a.
-        MeetsChanged k all.now flip.now.a flip.now.b a)) }
+    ensures { OnOk result (Refreshed stars.now candidates.old candidates.new (λ k a. MeetsSide k side.now a)) }
 {
-    let labels = stars.dim() as usize + 2;
-    for size in 1..most_labels(stars) + 1 {
-        refresh_changed(alloc, candidates, stars, flip, all, labels - size)?;
+    if 2 * side.len() <= stars.dim() as usize + 2 {
+        return Ok(());
     }
-    Ok(())
+    refresh_partners(candidates, stars, side)
 }

@@ -1,5 +1,5 @@
 // Few facets that have all those over a set: those of its smallest star.
-ghost use Rattle.std.specs.Prelude.{◌≡◌, ◌<◌, ◌≤◌, length, ℕ, MatchOption};
+ghost use Rattle.std.specs.Prelude.{◌≡◌, ◌<◌, ◌≤◌, nat_eq, length, ℕ, MatchOption};
 ghost use Rattle.std.specs.List.Sorted.{IsStrictlySortedBy};
 ghost use Rattle.complex_core.specs.Labels.{face_cmp};
 ghost use Rattle.complex_core.specs.Complexes.{ComplexView, over};
@@ -40,6 +40,22 @@ pub(crate) fn near<'a>(stars: &'a StarMap, set: &Face) -> &'a [Face]
         }
     }
     least
+}
+
+/// Whether exactly so many rows contain a set.
+pub(crate) fn are_over(rows: &[Face], set: &Face, count: usize) -> bool
+    ensures { result ≡ nat_eq (length (over rows.now set.now)) count }
+{
+    let mut found = 0;
+    for row in rows {
+        if row.holds(set) {
+            if found == count {
+                return false;
+            }
+            found += 1;
+        }
+    }
+    found == count
 }
 
 /// The labels of a set and of the rows that contain it. `None` exactly where these are more than so
