@@ -7,6 +7,7 @@ pub mod Nearing
 pub mod Growing
 pub mod Pages
 pub mod Stepping
+pub mod Gathering
 pub mod Choosing
 pub mod TwoRows
 pub mod Finding

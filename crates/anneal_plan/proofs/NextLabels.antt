@@ -15,7 +15,7 @@ use Rattle.anneal_plan.specs.Growth.{comes_next, next_labels}
 abbrev pub in_any : List (List ℕ) → ℕ → Bool
 in_any rows z = list_any (λ r. has r z) rows
 
-has-filter : (q : ℕ → Bool) (xs : List ℕ) (z : ℕ) → has (filter q xs) z ≡ (has xs z && q z)
+pub has-filter : (q : ℕ → Bool) (xs : List ℕ) (z : ℕ) → has (filter q xs) z ≡ (has xs z && q z)
 has-filter q [] z = refl
 has-filter q (x ∷ xs) z =
     elim (q x) as (λ b. q x ≡ b → has (cond b (x ∷ filter q xs) (filter q xs)) z ≡ ((nat_eq x z || has xs z) && q z)) [

@@ -79,7 +79,7 @@ label_fits p n last x rows a s h some small is label =
     let above : last < x = label_above (over rows a) p last x s (found_label p last x rows a s h is label) in
     (omega (arith, above), omega (arith, length_put_le x a, small, some))
 
-some_is : {P : Type 0} (r : Option (List ℕ)) (v : List ℕ) → SomeIff r P v → P → r ≡ Some v
+pub some_is : {P : Type 0} (r : Option (List ℕ)) (v : List ℕ) → SomeIff r P v → P → r ≡ Some v
 some_is None v s h = absurd (s h)
 some_is (Some w) v s h = ap Some s.1
 

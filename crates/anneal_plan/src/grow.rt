@@ -15,9 +15,9 @@ use stars::{Star, flip_at};
 
 // The vertex of a star, and the dimension.
 #[derive(Clone, Copy)]
-struct Centre {
-    vertex: u16,
-    dim: u32,
+pub(crate) struct Centre {
+    pub(crate) vertex: u16,
+    pub(crate) dim: u32,
 }
 
 // Adds the flips that take out a face with so many labels more, which are above the last one. Each
@@ -63,7 +63,7 @@ fn flips_in(centre: Centre, rows: &[Face], others: usize, from: usize) -> Page
 /// takes no memory.
 pub(crate) fn flips_of(star: &Star, others: usize, from: usize) -> Page
     requires { others ≤ 6 }
-    ensures { result ≡ page_of (flips_at star.now.dim star.now.rows (faces_at star.now.rows star.now.vertex (others + 1))) from }
+    ensures { result ≡ page_of (flips_at star.now.star.dim star.now.star.rows (faces_at star.now.star.rows star.now.star.vertex (others + 1))) from }
 {
     let centre = Centre {
         vertex: star.vertex(),

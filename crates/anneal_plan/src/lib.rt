@@ -7,6 +7,7 @@
 //! generation" (2014).
 #![tactic(auto)]
 
+mod gather;
 mod grow;
 mod listed;
 mod nearest;

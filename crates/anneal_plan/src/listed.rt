@@ -7,7 +7,7 @@ ghost use Rattle.stars.specs.Candidates.{IsListOf, candidate_faces, flip_of, opp
 ghost use Rattle.anneal_plan.specs.Listed.{IsListed, TellsTwo};
 ghost use Rattle.anneal_plan.specs.Proposals.{chosen, inner};
 
-use crate::grow::flips_of;
+use crate::gather::faces_out;
 use complex_core::Face;
 use flip_rules::Flip;
 use stars::Star;
@@ -31,8 +31,8 @@ fn two_over(rows: &[Face], face: &Face) -> Option<Face>
 
 // The flip that takes out a candidate, which the first two facets over it tell.
 fn flip_out(star: &Star, face: &Face) -> Flip
-    requires { IsStar star.now → IsListed star.now face.now }
-    ensures { result ≡ flip_of face.now (opposite star.now.rows face.now) }
+    requires { IsStar star.now.star → IsListed star.now.star face.now }
+    ensures { result ≡ flip_of face.now (opposite star.now.star.rows face.now) }
 {
     let Some(labels) = two_over(star.rows(), face) else {
         unreachable!()
@@ -52,8 +52,8 @@ fn face_at(faces: &[Face], place: usize) -> Option<Face>
 
 // The flip at a place of the list of an index.
 fn flip_at_place(star: &Star, faces: &[Face], place: usize) -> Option<Flip>
-    requires { (index : ℕ) × IsListOf star.now index faces.now }
-    ensures { (index : ℕ) → IsListOf star.now index faces.now → result ≡ slice_get (inner star.now index) place }
+    requires { (index : ℕ) × IsListOf star.now.star index faces.now }
+    ensures { (index : ℕ) → IsListOf star.now.star index faces.now → result ≡ slice_get (inner star.now.star index) place }
 {
     let face = face_at(faces, place)?;
     Some(flip_out(star, &face))
@@ -61,8 +61,8 @@ fn flip_at_place(star: &Star, faces: &[Face], place: usize) -> Option<Flip>
 
 /// The candidate that a word chooses from the list of an index. It takes no memory.
 pub(crate) fn listed_flip(star: &Star, faces: &[Face], word: u32) -> Option<Flip>
-    requires { (index : ℕ) × IsListOf star.now index faces.now }
-    ensures { (index : ℕ) → IsListOf star.now index faces.now → result ≡ chosen (inner star.now index) word }
+    requires { (index : ℕ) × IsListOf star.now.star index faces.now }
+    ensures { (index : ℕ) → IsListOf star.now.star index faces.now → result ≡ chosen (inner star.now.star index) word }
 {
     let count = faces.len();
     if count == 0 {
@@ -71,26 +71,19 @@ pub(crate) fn listed_flip(star: &Star, faces: &[Face], word: u32) -> Option<Flip
     flip_at_place(star, faces, word as usize % count)
 }
 
-// The candidates of an index, page by page.
+// The candidates of an index.
 fn faces_of(alloc: Global, star: &Star, index: u32) -> Result<Vec<Face>, AllocError>
     requires low { 1 ≤ index }
-    requires high { index ≤ star.now.dim }
-    ensures { IfOk result (λ v. v.items ≡ candidate_faces star.now index) }
+    requires high { index ≤ star.now.star.dim }
+    ensures { IfOk result (λ v. v.items ≡ candidate_faces star.now.star index) }
 {
     let others = (star.dim() - index) as usize;
-    let mut all = Vec::new(alloc);
-    let first = flips_of(star, others, 0);
-    first.add_faces(&mut all)?;
-    while all.len() < first.count() {
-        let page = flips_of(star, others, all.len());
-        page.add_faces(&mut all)?;
-    }
-    Ok(all)
+    faces_out(alloc, star, others)
 }
 
 /// Lets a star keep the candidates of an index, unless memory is short.
 pub(crate) fn find_list(alloc: Global, star: &mut Star, index: u32)
-    requires { index ≤ star.old.dim }
+    requires { index ≤ star.old.star.dim }
     ensures { star.new ≡ star.old }
 {
     if index == 0 || star.candidates(index).is_some() {
@@ -103,7 +96,7 @@ pub(crate) fn find_list(alloc: Global, star: &mut Star, index: u32)
 
 /// Whether a star knows a candidate of an index.
 pub(crate) fn knows_one(star: &Star, index: u32) -> bool
-    ensures { result ≡ true → 0 < length (candidate_faces star.now index) }
+    ensures { result ≡ true → 0 < length (candidate_faces star.now.star index) }
 {
     match star.candidates(index) {
         Some(faces) => !faces.is_empty(),

@@ -48,16 +48,6 @@ impl Page {
         self.count += 1;
     }
 
-    /// Puts the faces that the kept flips take out behind others.
-    pub(crate) fn add_faces(&self, faces: &mut Vec<Face>) -> Result<(), AllocError>
-        ensures { OnOk result (faces.new.items ≡ faces.old.items ++ map (λ f. f.a) self.now.kept) }
-    {
-        for flip in self.kept.as_slice() {
-            faces.push(flip.a)?;
-        }
-        Ok(())
-    }
-
     /// How many flips have come.
     pub(crate) fn count(&self) -> usize
         ensures { result ≡ self.now.count }

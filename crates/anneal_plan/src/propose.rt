@@ -68,7 +68,7 @@ fn nth_apart(rows: &[Face], label: u16, place: usize) -> Option<Face>
 // The candidate of index 0 that a word chooses.
 fn entering_flip(star: &Star, fresh: Option<u16>, word: u32) -> Option<Flip>
     requires { ForSome fresh (λ x. 0 < x) }
-    ensures { result ≡ chosen (entering star.now fresh) word }
+    ensures { result ≡ chosen (entering star.now.star fresh) word }
 {
     let label = fresh?;
     let count = count_apart(star.rows(), label);
@@ -83,8 +83,8 @@ fn entering_flip(star: &Star, fresh: Option<u16>, word: u32) -> Option<Flip>
 // The candidate of an index from 1 that a word chooses, found by a walk over the star.
 fn searched_flip(star: &Star, index: u32, word: u32) -> Option<Flip>
     requires low { 1 ≤ index }
-    requires high { index ≤ star.now.dim }
-    ensures { result ≡ chosen (inner star.now index) word }
+    requires high { index ≤ star.now.star.dim }
+    ensures { result ≡ chosen (inner star.now.star index) word }
 {
     let others = (star.dim() - index) as usize;
     let first = flips_of(star, others, 0);
@@ -102,8 +102,8 @@ fn searched_flip(star: &Star, index: u32, word: u32) -> Option<Flip>
 // The candidate of an index from 1 that a word chooses.
 fn inner_flip(star: &Star, index: u32, word: u32) -> Option<Flip>
     requires low { 1 ≤ index }
-    requires high { index ≤ star.now.dim }
-    ensures { result ≡ chosen (inner star.now index) word }
+    requires high { index ≤ star.now.star.dim }
+    ensures { result ≡ chosen (inner star.now.star index) word }
 {
     match star.candidates(index) {
         Some(faces) => listed_flip(star, faces, word),
@@ -113,9 +113,9 @@ fn inner_flip(star: &Star, index: u32, word: u32) -> Option<Flip>
 
 // The candidate of an index that a word chooses.
 fn chosen_flip(star: &Star, index: u32, fresh: Option<u16>, word: u32) -> Option<Flip>
-    requires high { index ≤ star.now.dim }
+    requires high { index ≤ star.now.star.dim }
     requires label { ForSome fresh (λ x. 0 < x) }
-    ensures { result ≡ chosen (candidates star.now fresh index) word }
+    ensures { result ≡ chosen (candidates star.now.star fresh index) word }
 {
     if index == 0 {
         entering_flip(star, fresh, word)
@@ -157,10 +157,10 @@ fn indices_of(dim: u32, phase: Phase, word: u32) -> Indices
 
 // The candidate that a word chooses at the first of some indices that has one.
 fn first_flip(star: &Star, indices: Indices, fresh: Option<u16>, word: u32) -> Option<Flip>
-    requires first { indices.first ≤ star.now.dim }
+    requires first { indices.first ≤ star.now.star.dim }
     requires last { indices.count ≤ indices.first + 1 }
     requires label { ForSome fresh (λ x. 0 < x) }
-    ensures { result ≡ first_chosen (candidates star.now fresh) word (falling indices.first indices.count) }
+    ensures { result ≡ first_chosen (candidates star.now.star fresh) word (falling indices.first indices.count) }
 {
     for tried in 0..indices.count {
         if let Some(flip) = chosen_flip(star, indices.first - tried, fresh, word) {
@@ -173,7 +173,7 @@ fn first_flip(star: &Star, indices: Indices, fresh: Option<u16>, word: u32) -> O
 /// Finds the candidates from which [`proposal`] chooses, and lets the star keep them, so that it
 /// needn't walk over the star again. The star stays the same, also where memory is short.
 pub fn find_candidates(alloc: Global, star: &mut Star, phase: Phase, words: &[u32; 8])
-    requires dim { 1 ≤ star.old.dim }
+    requires dim { 1 ≤ star.old.star.dim }
     ensures { star.new ≡ star.old }
 {
     let indices = indices_of(star.dim(), phase, words[1]);
@@ -203,12 +203,12 @@ pub fn proposal(
     turn: u32,
     free: &[u16],
 ) -> Option<Flip>
-    requires dim { 1 ≤ star.now.dim }
+    requires dim { 1 ≤ star.now.star.dim }
     requires turn { turn ≤ 3 }
     requires free { AllByRecursion (λ x. 0 < x) free.now }
-    ensures proposal { result ≡ proposal_of star.now phase words.now turn free.now }
-    ensures fits { IfSome result (FitsStar star.now free.now) }
-    ensures none { (result ≡ None) ↔ HasNoCandidate star.now phase words.now turn free.now }
+    ensures proposal { result ≡ proposal_of star.now.star phase words.now turn free.now }
+    ensures fits { IfSome result (FitsStar star.now.star free.now) }
+    ensures none { (result ≡ None) ↔ HasNoCandidate star.now.star phase words.now turn free.now }
 {
     let fresh = fresh_label(free, words[6], turn);
     let word = words[2 + turn as usize];

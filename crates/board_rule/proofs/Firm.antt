@@ -16,7 +16,7 @@ use Rattle.board_rule.specs.Rule.{Board, Written, Owned, Housed, Knows, Ruled, f
 use Rattle.board_rule.specs.Ends.{Opens, Commits}
 use Rattle.board_rule.specs.Steps.{looked, taken, put_home}
 use Rattle.board_rule.specs.declared.setup.Setup.{Setup}
-use Rattle.board_rule.specs.declared.data.VersionedStar.{VersionedStar}
+use Rattle.board_rule.specs.Homes.{VersionedStar}
 use Rattle.board_rule.specs.declared.data.Slot.{Slot}
 use Rattle.board_rule.specs.declared.data.Slot.TheVariants.{Journal, Home}
 use Rattle.board_rule.specs.declared.view.PassView.{PassView}

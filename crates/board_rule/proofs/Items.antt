@@ -6,7 +6,7 @@ use native.Mathlib.Decide.{ℕ_discrete}
 use Rattle.flip_rules.specs.declared.flip.Flip.{Flip}
 use Rattle.board_rule.specs.Items.{item, has_item, without}
 use Rattle.board_rule.specs.Views.{flipped_home, all_flipped}
-use Rattle.board_rule.specs.declared.data.VersionedStar.{VersionedStar}
+use Rattle.board_rule.specs.Homes.{VersionedStar}
 
 -- a test of two numbers, by cases
 pub tested : (a b : ℕ) (F : Bool → Type 0) → (a ≡ b → F true) → (a ≢ b → F false) → F (eqb a b)

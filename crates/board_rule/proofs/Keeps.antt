@@ -19,7 +19,7 @@ use Rattle.board_rule.specs.Plays.{Seated, Sees, IsRefused, began, claimed, fetc
 use Rattle.board_rule.specs.Ends.{Opens, Commits, AllBack, Closes}
 use Rattle.board_rule.specs.Steps.{looked, taken}
 use Rattle.board_rule.specs.declared.setup.Setup.{Setup}
-use Rattle.board_rule.specs.declared.data.VersionedStar.{VersionedStar}
+use Rattle.board_rule.specs.Homes.{VersionedStar}
 use Rattle.board_rule.specs.declared.data.Slot.{Slot}
 use Rattle.board_rule.specs.declared.data.Slot.TheVariants.{Journal, Home}
 use Rattle.board_rule.specs.declared.kept.Kept.{Kept}

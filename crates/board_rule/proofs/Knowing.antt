@@ -18,7 +18,7 @@ use Rattle.board_rule.specs.Views.{home, star_in, home_at, flipped_home, newcome
 use Rattle.board_rule.specs.Rule.{Written, Knows}
 use Rattle.board_rule.specs.Plays.{Sees}
 use Rattle.board_rule.specs.declared.setup.Setup.{Setup}
-use Rattle.board_rule.specs.declared.data.VersionedStar.{VersionedStar}
+use Rattle.board_rule.specs.Homes.{VersionedStar}
 use Rattle.board_rule.specs.declared.view.PassView.{PassView}
 use Rattle.board_rule.proofs.Items.{off, has_some, item_cons, some_of, item_without, item_flipped}
 

@@ -27,7 +27,7 @@ use Rattle.board_rule.specs.Views.{home_at, keeps, opened_by, lost_by, with_item
 use Rattle.board_rule.specs.Rule.{Board, Ruled, core_of}
 use Rattle.board_rule.specs.Steps.{looked, taken, put_home, IsAt, core_at, GoesOver, FlipsMade, IsCommit, Writes, OpeningLaw, FirstWonLaw, FirstRefusedLaw, LaterWonLaw, JournalWonLaw, LaterRefusedLaw, ReleaseLaw, LeaveLaw, CommitLaw, HandOutLaw, TakeBackLaw, ClosedLaw}
 use Rattle.board_rule.specs.declared.setup.Setup.{Setup}
-use Rattle.board_rule.specs.declared.data.VersionedStar.{VersionedStar}
+use Rattle.board_rule.specs.Homes.{VersionedStar}
 use Rattle.board_rule.specs.declared.data.Slot.{Slot}
 use Rattle.board_rule.specs.declared.data.Slot.TheVariants.{Journal, Home}
 use Rattle.board_rule.specs.declared.view.PassView.{PassView}

@@ -11,7 +11,7 @@ use Rattle.board_rule.specs.Items.{has_item}
 use Rattle.board_rule.specs.Tries.{Try, won_try, lost_try, refused_at, noted_at, at_last, last_note, has_won}
 use Rattle.board_rule.specs.Views.{keeps}
 use Rattle.board_rule.specs.Rule.{Owned, IsOther, Marked, Holds, HasWon, Blames}
-use Rattle.board_rule.specs.declared.data.VersionedStar.{VersionedStar}
+use Rattle.board_rule.specs.Homes.{VersionedStar}
 use Rattle.board_rule.specs.declared.view.PassView.{PassView}
 use Rattle.board_rule.specs.declared.view.MainView.{MainView}
 use Rattle.board_rule.specs.declared.view.View.{View}

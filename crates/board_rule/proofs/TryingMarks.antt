@@ -10,7 +10,7 @@ use Rattle.board_rule.specs.Tries.{Try, won_try, lost_try, refused_at, noted_at,
 use Rattle.board_rule.specs.Views.{home_at, Empty, newcomer, opened_by, lost_by, with_item, counted, with_journal, without_item, without_journal, committed}
 use Rattle.board_rule.specs.Rule.{Knows, IsOther, Names, Marked, Claims, Holds}
 use Rattle.board_rule.specs.declared.setup.Setup.{Setup}
-use Rattle.board_rule.specs.declared.data.VersionedStar.{VersionedStar}
+use Rattle.board_rule.specs.Homes.{VersionedStar}
 use Rattle.board_rule.specs.declared.view.PassView.{PassView}
 use Rattle.board_rule.proofs.Items.{tested, off, item_front, item_past, has_some, some_of, none_of, has_less, has_flipped}
 use Rattle.board_rule.proofs.Owning.{keeps_star}

@@ -11,7 +11,7 @@ use Rattle.board_rule.specs.Tries.{Try, won_try, refused_at, noted_at, at_last, 
 use Rattle.board_rule.specs.Views.{home_at}
 use Rattle.board_rule.specs.Rule.{Written, Knows, FitsAt, Fits, Noted, Claims}
 use Rattle.board_rule.specs.declared.setup.Setup.{Setup}
-use Rattle.board_rule.specs.declared.data.VersionedStar.{VersionedStar}
+use Rattle.board_rule.specs.Homes.{VersionedStar}
 use Rattle.board_rule.specs.declared.view.PassView.{PassView}
 use Rattle.board_rule.proofs.Items.{tested, off, item_cons}
 use Rattle.board_rule.proofs.TryingEntries.{every, no_next}

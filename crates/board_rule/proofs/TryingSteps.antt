@@ -13,7 +13,7 @@ use Rattle.board_rule.specs.Tries.{Try, won_try, lost_try, refused_at, noted_at,
 use Rattle.board_rule.specs.Views.{home_at, keeps, Empty, opened_by, lost_by, with_item, counted, with_journal, without_item, without_journal, committed}
 use Rattle.board_rule.specs.Rule.{Written, Owned, Knows, Names, Noted, Marked, Holds, HasWon, Blames, Past, Board, Ruled}
 use Rattle.board_rule.specs.declared.setup.Setup.{Setup}
-use Rattle.board_rule.specs.declared.data.VersionedStar.{VersionedStar}
+use Rattle.board_rule.specs.Homes.{VersionedStar}
 use Rattle.board_rule.specs.declared.kept.Kept.{Kept}
 use Rattle.board_rule.specs.declared.view.PassView.{PassView}
 use Rattle.board_rule.specs.declared.view.MainView.{MainView}

@@ -9,7 +9,7 @@ use Rattle.board_rule.specs.Books.{Book}
 use Rattle.board_rule.specs.Items.{item}
 use Rattle.board_rule.specs.Tries.{wins}
 use Rattle.board_rule.specs.Views.{star_in, pass_view_of, main_view_of, newcomer, opened_by, lost_by, with_item, counted, with_journal, without_item, without_journal, committed, one_more_pass, one_back}
-use Rattle.board_rule.specs.declared.data.VersionedStar.{VersionedStar}
+use Rattle.board_rule.specs.Homes.{VersionedStar}
 use Rattle.board_rule.specs.declared.data.Slot.{Slot}
 use Rattle.board_rule.specs.declared.data.Slot.TheVariants.{Journal, Home}
 use Rattle.board_rule.specs.declared.view.PassView.{PassView}

@@ -17,7 +17,7 @@ use Rattle.board_rule.specs.Items.{item, has_item}
 use Rattle.board_rule.specs.Tries.{Try, last_with, last_note, last_won, last_count, wins, has_won}
 use Rattle.board_rule.specs.Views.{home_at, keeps, living}
 use Rattle.board_rule.specs.declared.setup.Setup.{Setup}
-use Rattle.board_rule.specs.declared.data.VersionedStar.{VersionedStar}
+use Rattle.board_rule.specs.Homes.{VersionedStar}
 use Rattle.board_rule.specs.declared.data.Slot.{Slot}
 use Rattle.board_rule.specs.declared.data.Slot.TheVariants.{Journal, Home}
 use Rattle.board_rule.specs.declared.view.PassView.{PassView}

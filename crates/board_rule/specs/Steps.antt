@@ -20,7 +20,7 @@ use Rattle.board_rule.specs.Rule.{Board, Ruled, core_of, opener}
 use Rattle.board_rule.specs.Plays.{handed, given, gathered}
 use Rattle.board_rule.specs.Ends.{Opens, Commits, AllBack, Closes}
 use Rattle.board_rule.specs.declared.setup.Setup.{Setup}
-use Rattle.board_rule.specs.declared.data.VersionedStar.{VersionedStar}
+use Rattle.board_rule.specs.Homes.{VersionedStar}
 use Rattle.board_rule.specs.declared.data.Slot.{Slot}
 use Rattle.board_rule.specs.declared.data.Slot.TheVariants.{Journal, Home}
 use Rattle.board_rule.specs.declared.view.PassView.{PassView}

@@ -3,7 +3,7 @@ use Rattle.std.specs.Prelude.{◌≡◌, ℕ, ◌+◌, Bool, true, false, cond, 
 use mathlib.Core.Option.{Option, some, none}
 use Rattle.std.specs.List.{list_any}
 use Rattle.board_rule.specs.Items.{has_item}
-use Rattle.board_rule.specs.declared.data.VersionedStar.{VersionedStar}
+use Rattle.board_rule.specs.Homes.{VersionedStar}
 
 pub record Try : Type 0 where
   -- the mark: the place of the first claim, whether it was won, and the version that was won or the owner that was found

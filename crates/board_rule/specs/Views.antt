@@ -8,7 +8,7 @@ use Rattle.star_laws.specs.Stars.{star, star_after_all, flips_touch}
 use Rattle.stars.specs.StarViews.{VertexStar}
 use Rattle.board_rule.specs.Items.{has_item, without}
 use Rattle.board_rule.specs.Tries.{Try, won_try, lost_try, at_last, noted_at, refused_at}
-use Rattle.board_rule.specs.declared.data.VersionedStar.{VersionedStar}
+use Rattle.board_rule.specs.Homes.{VersionedStar}
 use Rattle.board_rule.specs.declared.view.PassView.{PassView}
 use Rattle.board_rule.specs.declared.kept.Kept.{Kept}
 use Rattle.board_rule.specs.declared.view.MainView.{MainView}

@@ -7,12 +7,52 @@ use std::alloc::{AllocError, Global};
 use std::marker::Model;
 
 /// What lies at a place from 1: its star, and how many entries of the journal touch the place.
+///
+/// Contracts see the star and that number, and not for how many facets the star has room: that is seen of
+/// a star that was taken out.
 #[derive(Drop)]
 pub struct VersionedStar {
+    star: Star,
+    version: u64,
+}
+
+impl Model for VersionedStar {
+    ghost use Rattle.board_rule.specs.Homes.{VersionedStar};
+
+    ghost Value = { VersionedStar };
+
+    ghost view = { λ x. record { star = x.star.star; version = x.version } };
+}
+
+impl VersionedStar {
+    /// A star, and how many entries touch its place.
+    pub fn new(star: Star, version: u64) -> VersionedStar
+        ensures { result ≡ record { star = star.star; version = version } }
+    {
+        VersionedStar { star, version }
+    }
+
     /// The star of the place.
-    pub star: Star,
+    pub fn star(&self) -> &Star
+        ensures { result.now.star ≡ self.now.star }
+    {
+        &self.star
+    }
+
     /// The number of entries that touch it.
-    pub version: u64,
+    pub fn version(&self) -> u64
+        ensures { result ≡ self.now.version }
+    {
+        self.version
+    }
+
+    /// The star, and the number of entries that touch it.
+    pub fn into_parts(self) -> (Star, u64)
+        ensures star { result.0.star ≡ self.star }
+        ensures version { result.1 ≡ self.version }
+    {
+        (self.star, self.version)
+    }
 }
 
 /// The journal of a board that is open, with room for entries to come.

@@ -4,7 +4,7 @@ ghost use Rattle.std.specs.Borrow.{ftrue};
 ghost use Rattle.complex_core.specs.Complexes.{ComplexView};
 ghost use Rattle.flip_rules.specs.Entries.{JournalEntry};
 ghost use Rattle.board_rule.specs.Tries.{Try};
-ghost use Rattle.board_rule.specs.declared.data.VersionedStar.{VersionedStar};
+ghost use Rattle.board_rule.specs.Homes.{VersionedStar};
 ghost use Rattle.board_rule.specs.declared.kept.Kept.{Kept};
 
 use std::marker::Model;

@@ -22,4 +22,4 @@ mod write;
 pub use certificate::Certificate;
 pub use fault::CertFault;
 pub use read::read_certificate;
-pub use write::{write_certificate, written_certificate_is_read};
+pub use write::{write_certificate, write_map, written_certificate_is_read};

@@ -51,7 +51,7 @@ fn put_certificate(certificate: &Certificate, out: &mut Vec<u8>) -> Result<(), A
             put_header(b"equal", out)?;
             put_target(target, out)?;
             put_flips(flips, out)?;
-            put_map(map, out)
+            write_map(map, out)
         }
         Certificate::Manifold(vertices) => {
             put_header(b"manifold", out)?;
@@ -128,9 +128,10 @@ fn put_pair(first: u16, second: u16, out: &mut Vec<u8>) -> Result<(), AllocError
     Ok(())
 }
 
-/// Adds the number of pairs, and their lines.
+/// Appends the lines of a map: the number of its pairs, and a line for each pair. After want of memory
+/// `out` begins with what it was.
 #[tactic(auto, unfolding(crate::specs::Writing::map_text))]
-fn put_map(map: &VertexMap, out: &mut Vec<u8>) -> Result<(), AllocError>
+pub fn write_map(map: &VertexMap, out: &mut Vec<u8>) -> Result<(), AllocError>
     ensures ok { OnOk result (out.new.items ≡ out.old.items ++ map_text map.now) }
     ensures err { OnErr result (OnlyAdds out.old.items out.new.items) }
 {

@@ -7,6 +7,10 @@ mod bytes;
 #[cfg(test)]
 mod flips;
 #[cfg(test)]
+mod isomorphisms;
+#[cfg(test)]
+mod local_flips;
+#[cfg(test)]
 mod samples;
 #[cfg(test)]
 mod texts;

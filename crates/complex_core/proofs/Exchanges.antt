@@ -1,17 +1,20 @@
 -- Faces taken out of a rising list of faces, and put into it.
-use Rattle.std.proofs.Common.{◌≡◌, ℕ, ◌+◌, ◌<◌, Result, Ok, Err, get_or, Bool, true, false, not, cond, ◌&&◌, ◌||◌, List, [], ◌∷◌, ◌++◌, length, take, filter, sym, ◌∙◌, ap, refl, is_ok, nat_eq, append_assoc, append-nil, subst}
+use Rattle.std.proofs.Common.{◌≡◌, ℕ, zero, suc, ◌+◌, ◌-◌, ◌<◌, ◌≤◌, Result, Ok, Err, get_or, Bool, true, false, not, cond, ◌&&◌, ◌||◌, List, [], ◌∷◌, ◌++◌, length, take, filter, sym, ◌∙◌, ap, refl, is_ok, nat_eq, append_assoc, append-nil, subst, arith}
 use Rattle.std.specs.List.{remove}
 use Rattle.std.specs.List.Sorted.{IsStrictlySortedBy, IsBinarySearchResult, IsSearchInRange}
 use Rattle.std.specs.Cmp.Lexicographic.{pointwise, texts_ties, nat_list_cmp_total, nat_list_eq_equiv}
 use Rattle.std.specs.Ordering.{eq_by_cmp}
 use Rattle.std.specs.Result.{MatchResult}
-use Rattle.std.proofs.lemmas.List.{take_more}
+use Rattle.std.specs.Ordering.{match_ordering}
+use Rattle.std.specs.declared.cmp.Ordering.TheVariants.{Less, Equal, Greater}
+use Rattle.std.proofs.lemmas.List.{take_more, take_all, get_or_default, length-append}
 use Rattle.std.proofs.lemmas.List.Folds.{list_any-append}
 use Rattle.std.proofs.lemmas.List.Kept.{IsStrictlySortedBy-filter}
 use Rattle.complex_core.specs.Labels.{face_cmp}
 use Rattle.complex_core.specs.Rising.{put, rising}
 use Rattle.complex_core.specs.Complexes.{is_facet, staying}
-use Rattle.complex_core.proofs.Sets.{sorted_put}
+use Rattle.complex_core.proofs.Sets.{sorted_put, length-put_new}
+use Rattle.complex_core.proofs.SetLists.{rising_length}
 use Rattle.complex_core.proofs.Searching.{Stands, Missing, searched_for, rising_push, rising_own}
 use Rattle.complex_core.proofs.Sorting.{exact_faces}
 use Rattle.complex_core.proofs.Laws.{listed-among}
@@ -86,3 +89,36 @@ staying_none (x ∷ xs) = ap (λ ys. x ∷ ys) (staying_none xs)
 
 pub rising_start : (xs : List (List ℕ)) → IsStrictlySortedBy face_cmp xs → xs ≡ rising face_cmp (xs ++ [])
 rising_start xs s = sym (ap (rising face_cmp) (append-nil xs) ∙ rising_itself xs s)
+
+-- what is put in stays within what all of them make
+put_no_less : (f : List ℕ) (fs : List (List ℕ)) → length fs ≤ length (put face_cmp f fs)
+put_no_less f [] = omega arith
+put_no_less f (g ∷ gs) = elim (face_cmp f g) as (λ o. length (g ∷ gs) ≤ length (match_ordering o (f ∷ g ∷ gs) (g ∷ gs) (g ∷ put face_cmp f gs))) [
+  | Less ↦ omega arith
+  | Equal ↦ omega arith
+  | Greater ↦ omega (arith, put_no_less f gs)
+]
+
+grows : (old more : List (List ℕ)) (i n : ℕ) → i + n ≤ length more → length (rising face_cmp (old ++ take i more)) ≤ length (rising face_cmp (old ++ take (i + n) more))
+grows old more i zero l = let e : i + zero ≡ i = omega arith in subst (λ k. length (rising face_cmp (old ++ take i more)) ≤ length (rising face_cmp (old ++ take k more))) (sym e) (omega arith)
+grows old more i (suc n) l =
+    let x : List ℕ = get_or more (i + n) [] in
+    let one : rising face_cmp (old ++ take (i + n + 1) more) ≡ put face_cmp x (rising face_cmp (old ++ take (i + n) more)) = sym (rising_next old (rising face_cmp (old ++ take (i + n) more)) (put face_cmp x (rising face_cmp (old ++ take (i + n) more))) more x (i + n) (omega (arith, l)) (get_or_default more (i + n) [] x (omega (arith, l))) refl refl) in
+    let e : i + suc n ≡ i + n + 1 = omega arith in
+    subst (λ k. length (rising face_cmp (old ++ take i more)) ≤ length (rising face_cmp (old ++ take k more))) (sym e) (omega (arith, ap length one, put_no_less x (rising face_cmp (old ++ take (i + n) more)), grows old more i n (omega (arith, l))))
+
+pub next_fits : (old sets more : List (List ℕ)) (x : List ℕ) (i room : ℕ) → i < length more → x ≡ get_or more i x → sets ≡ rising face_cmp (old ++ take i more) → length (rising face_cmp (old ++ more)) ≤ room → length (put face_cmp x sets) ≤ room
+next_fits old sets more x i room h item so_far fits =
+    let one : put face_cmp x sets ≡ rising face_cmp (old ++ take (i + 1) more) = rising_next old sets (put face_cmp x sets) more x i h item so_far refl in
+    let e : i + 1 + (length more - (i + 1)) ≡ length more = omega (arith, h) in
+    let all : length (rising face_cmp (old ++ take (i + 1) more)) ≤ length (rising face_cmp (old ++ take (i + 1 + (length more - (i + 1))) more)) = grows old more (i + 1) (length more - (i + 1)) (omega (arith, h)) in
+    let whole : take (i + 1 + (length more - (i + 1))) more ≡ more = take_all (i + 1 + (length more - (i + 1))) more (omega (arith, e)) in
+    omega (arith, ap length one, all, ap (λ fs. length (rising face_cmp (old ++ fs))) whole, fits)
+
+-- a new one takes one place more
+pub one_fits : (xs : List (List ℕ)) (x : List ℕ) (at room : ℕ) → Missing face_cmp xs x at → length (put face_cmp x xs) ≤ room → length xs < room
+one_fits xs x at room m fits = omega (arith, length-put_new face_cmp x xs m.absent, fits)
+
+-- there is room for what is made of two lists where there is room for both
+pub both_fit : (old more : List (List ℕ)) (room : ℕ) → length old + length more ≤ room → length (rising face_cmp (old ++ more)) ≤ room
+both_fit old more room fits = omega (arith, rising_length (old ++ more), length-append old more, fits)

@@ -15,7 +15,7 @@ use Rattle.std.proofs.lemmas.Map.Keys.{Less-from_sorted}
 use Rattle.complex_core.specs.Rising.{put}
 use Rattle.complex_core.specs.Labels.{IsFace, IsRising, has, with, without, union}
 use Rattle.complex_core.proofs.Searching.{Stands, Missing, searched_for}
-use Rattle.complex_core.proofs.Sets.{sorted_put, sorted_push, sorted_front, sorted_none, above_cons, above_head, above_tail, Above, last, last_below, length-put, length-put_new, put_there_same, among}
+use Rattle.complex_core.proofs.Sets.{sorted_put, sorted_push, sorted_front, sorted_none, above_cons, above_head, above_tail, Above, last, last_below, length-put, length-put_new, among}
 
 pub cmp_less : (x y : ℕ) → x < y → nat_cmp x y ≡ Less
 cmp_less x y h = grind (arith, nat_tests)
@@ -35,9 +35,6 @@ equal_cmp x y h = grind (arith, nat_tests)
 -- where a label goes
 pub put_before : (x y : ℕ) (ys : List ℕ) → x < y → put nat_cmp x (y ∷ ys) ≡ x ∷ y ∷ ys
 put_before x y ys h = ap (λ r. match_ordering r (x ∷ y ∷ ys) (y ∷ ys) (y ∷ put nat_cmp x ys)) (cmp_less x y h)
-
-pub put_there : (x y : ℕ) (ys : List ℕ) → x ≡ y → put nat_cmp x (y ∷ ys) ≡ y ∷ ys
-put_there x y ys h = ap (λ r. match_ordering r (x ∷ y ∷ ys) (y ∷ ys) (y ∷ put nat_cmp x ys)) (cmp_equal x y h)
 
 pub put_after : (x y : ℕ) (ys : List ℕ) → y < x → put nat_cmp x (y ∷ ys) ≡ y ∷ put nat_cmp x ys
 put_after x y ys h = ap (λ r. match_ordering r (x ∷ y ∷ ys) (y ∷ ys) (y ∷ put nat_cmp x ys)) (cmp_greater x y h)
@@ -89,10 +86,6 @@ length-union xs (y ∷ ys) = omega (arith, length-put nat_cmp y xs, length-union
 pub among-has : (x : ℕ) (xs : List ℕ) → among nat_cmp x xs ≡ has xs x
 among-has x [] = refl
 among-has x (y ∷ ys) = let h : among nat_cmp x ys ≡ has ys x = among-has x ys in let e : eq_by_cmp nat_cmp x y ≡ nat_eq y x = grind (arith, nat_tests) in λ i. e i || h i
-
--- a label that is there stays alone
-pub with_there : (xs : List ℕ) (x : ℕ) → IsFace xs → has xs x ≡ true → with xs x ≡ xs
-with_there xs x h t = put_there_same nat_cmp_total x xs (above_tail nat_cmp 0 xs h.rising) (among-has x xs ∙ t)
 
 pub with_new : (xs : List ℕ) (x : ℕ) → has xs x ≡ false → length (with xs x) ≡ length xs + 1
 with_new xs x t = length-put_new nat_cmp x xs (among-has x xs ∙ t)
@@ -163,6 +156,3 @@ drop_next (x ∷ xs) (suc i) d h = let e : suc i + 1 ≡ suc (i + 1) = omega ari
 -- a union that is too long already
 pub union_long : (xs ys all : List ℕ) (i : ℕ) → union xs ys ≡ union all (drop i ys) → i < length ys → length (union xs ys) ≤ 8 → length (with all (get_or ys i 0)) ≤ 8
 union_long xs ys all i e h few = omega (arith, few, ap length e, ap (λ zs. length (union all zs)) (drop_next ys i 0 h), length-union (with all (get_or ys i 0)) (drop (i + 1) ys))
-
-pub union_next : (all ys : List ℕ) (i : ℕ) → i < length ys → union all (drop i ys) ≡ union (with all (get_or ys i 0)) (drop (i + 1) ys)
-union_next all ys i h = ap (union all) (drop_next ys i 0 h)

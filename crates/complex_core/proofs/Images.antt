@@ -1,5 +1,5 @@
 -- What faces and facets become under a map that takes no two labels to the same one.
-use Rattle.std.proofs.Common.{◌≡◌, ℕ, ◌<◌, ◌≤◌, get_or, true, false, nat_eq, cond, ◌||◌, List, [], ◌∷◌, ◌++◌, length, take, map, sym, ◌∙◌, ap, refl, subst, arith}
+use Rattle.std.proofs.Common.{◌≡◌, ℕ, ◌<◌, ◌≤◌, get_or, true, false, nat_eq, cond, ◌||◌, List, [], ◌∷◌, length, take, map, sym, ◌∙◌, ap, refl, subst, arith}
 use Rattle.std.specs.List.{AllByRecursion, list_all}
 use Rattle.std.specs.List.Sorted.{IsStrictlySortedBy}
 use Rattle.std.specs.Cmp.{first_so, second_so}
@@ -54,11 +54,6 @@ one_to_one ps x y d t r = both_ways (nat_eq (at ps x) (at ps y)) (nat_eq x y)
     (λ e. ap (λ z. nat_eq (at ps x) (at ps z)) (sym (nat_eq_is x y e)) ∙ nat_eq_same (at ps x))
 
 -- ---- faces
-
--- what the labels become one after another
-pub union_push : (xs ys : List ℕ) (z : ℕ) → union xs (ys ++ z ∷ []) ≡ with (union xs ys) z
-union_push xs [] z = refl
-union_push xs (y ∷ ys) z = union_push (with xs y) ys z
 
 pub union_rising : (ys : List ℕ) → union [] ys ≡ rising nat_cmp ys
 union_rising ys = same_labels (union [] ys) (rising nat_cmp ys) (sorted_union [] ys (sorted_none nat_cmp)) (sorted_rising nat_cmp_total ys) (λ z. has-union [] ys z ∙ sym (any-rising nat_cmp equal_cmp (λ y. nat_eq y z) ys))

@@ -162,11 +162,6 @@ pub none_listed : (p : List ℕ → Bool) (fs : List (List ℕ)) → ((f : List 
 none_listed p [] h = refl
 none_listed p (g ∷ gs) h = both_false (h g (or_left (pointwise nat_eq g g) (listed gs g) (same_set_itself g))) (none_listed p gs (λ f t. h f (or_right (pointwise nat_eq g f) (listed gs f) t)))
 
--- where some member passes p and all pass q
-pub some_of_all : {X : Type 0} (p q : X → Bool) (c : Bool) (xs : List X) → ((x : X) → p x ≡ true → q x ≡ true → c ≡ true) → list_any p xs ≡ true → list_all q xs ≡ true → c ≡ true
-some_of_all p q c [] h s a = let e : false ≡ true = s in cc
-some_of_all p q c (x ∷ xs) h s a = either (p x) (list_any p xs) c s (λ e. h x e (first_so (q x) (list_all q xs) a)) (λ t. some_of_all p q c xs h t (second_so (q x) (list_all q xs) a))
-
 pub each_has : (q : ℕ → Bool) (xs : List ℕ) → ((x : ℕ) → has xs x ≡ true → q x ≡ true) → list_all q xs ≡ true
 each_has q [] h = refl
 each_has q (x ∷ xs) h = both_true (h x (or_left (nat_eq x x) (has xs x) (nat_eq_same x))) (each_has q xs (λ z t. h z (or_right (nat_eq x z) (has xs z) t)))

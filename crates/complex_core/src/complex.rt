@@ -114,9 +114,8 @@ pub fn take_all_out(sets: &mut Vec<Face>, out: &[Face])
 // Puts a set into its place in a rising list, unless it is there.
 fn put_in(sets: &mut Vec<Face>, set: &Face)
     requires rising { IsStrictlySortedBy face_cmp sets.old.items }
-    requires room { vec_len sets.old < vec_capacity sets.old }
+    requires room { length (put face_cmp set.now sets.old.items) ≤ vec_capacity sets.old }
     ensures items { sets.new.items ≡ put face_cmp set.now sets.old.items }
-    ensures len { vec_len sets.new ≤ vec_len sets.old + 1 }
     ensures capacity { vec_capacity sets.new ≡ vec_capacity sets.old }
 {
     if let Err(position) = sets.binary_search(set) {
@@ -124,11 +123,12 @@ fn put_in(sets: &mut Vec<Face>, set: &Face)
     }
 }
 
-/// Puts each of some sets into its place in a rising list that has room for them.
+/// Puts each of some sets into its place in a rising list that has room for what it becomes.
 pub fn put_all_in(sets: &mut Vec<Face>, more: &[Face])
     requires rising { IsStrictlySortedBy face_cmp sets.old.items }
-    requires room { vec_len sets.old + length more.now ≤ vec_capacity sets.old }
-    ensures { sets.new.items ≡ rising face_cmp (sets.old.items ++ more.now) }
+    requires room { length (rising face_cmp (sets.old.items ++ more.now)) ≤ vec_capacity sets.old }
+    ensures items { sets.new.items ≡ rising face_cmp (sets.old.items ++ more.now) }
+    ensures capacity { vec_capacity sets.new ≡ vec_capacity sets.old }
 {
     for set in more {
         put_in(sets, set);

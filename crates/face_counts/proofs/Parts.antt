@@ -1,20 +1,20 @@
 -- The sets that some facet contains, and the faces.
-use Rattle.std.proofs.Common.{◌≡◌, ℕ, ◌+◌, Bool, true, false, not, nat_eq, ◌||◌, ◌&&◌, List, [], ◌∷◌, length, sym, ◌∙◌, ap, refl, subst, inl, inr, arith}
-use Rattle.std.specs.List.{flat_map, list_any, filter, AllByRecursion}
+use Rattle.std.proofs.Common.{◌≡◌, ℕ, ◌+◌, Bool, true, false, not, nat_eq, ◌||◌, ◌&&◌, List, [], ◌∷◌, length, sym, ◌∙◌, ap, refl, arith}
+use Rattle.std.specs.List.{flat_map, list_any, filter}
 use Rattle.std.specs.List.Sorted.{IsStrictlySortedBy}
 use Rattle.std.specs.Ordering.{nat_cmp}
 use Rattle.std.specs.Cmp.{first_so, second_so}
 use Rattle.std.specs.Cmp.Derive.{both_true}
-use Rattle.std.specs.Cmp.Lexicographic.{pointwise, nat_list_cmp_total}
+use Rattle.std.specs.Cmp.Lexicographic.{nat_list_cmp_total}
 use Rattle.std.proofs.lemmas.Bool.Decides.{nat_tests}
 use Rattle.std.proofs.lemmas.List.Kept.{IsStrictlySortedBy-filter}
 use Rattle.complex_core.specs.Labels.{holds, face_cmp}
 use Rattle.complex_core.specs.Rising.{rising}
-use Rattle.complex_core.specs.Complexes.{IsFacet, IsComplex, ComplexView, is_held}
+use Rattle.complex_core.specs.Complexes.{IsComplex, ComplexView, is_held}
 use Rattle.complex_core.specs.Subsets.{subsets_of}
 use Rattle.complex_core.proofs.Sets.{above_tail, sorted_rising}
-use Rattle.complex_core.proofs.Laws.{both_ways, or_left, or_right, nat_eq_same, listed, same_sets_is, same_set_itself, listed-append, listed-filter, listed-rising, same_lists, some_listed}
-use Rattle.complex_core.proofs.SubsetLists.{two, clash, Chosen, chosen_is, chosen_from, part_is_face}
+use Rattle.complex_core.proofs.Laws.{both_ways, nat_eq_same, listed, listed-filter, listed-rising, same_lists, some_listed}
+use Rattle.complex_core.proofs.SubsetLists.{Chosen, chosen_is, chosen_from, part_is_face}
 use Rattle.face_counts.specs.Faces.{subsets, parts, is_some, faces}
 use Rattle.face_counts.specs.Laws.{FacesLaw}
 use Rattle.face_counts.proofs.Sizes.{listed-subsets_of, any_both}

@@ -1,7 +1,6 @@
 -- The subsets of one size are among all subsets those of that size.
 use Rattle.std.proofs.Common.{◌≡◌, ℕ, zero, suc, Bool, true, false, nat_eq, ◌||◌, ◌&&◌, List, [], ◌∷◌, length, map, sym, ◌∙◌, ap, refl, arith}
 use Rattle.std.specs.List.{list_any}
-use Rattle.std.specs.Cmp.Lexicographic.{pointwise}
 use Rattle.std.proofs.lemmas.Bool.Decides.{nat_tests}
 use Rattle.complex_core.specs.Subsets.{subsets_of}
 use Rattle.complex_core.proofs.Laws.{listed, listed-append, or_left}

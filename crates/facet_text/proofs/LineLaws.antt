@@ -78,9 +78,6 @@ pub items-end : (bs : List ℕ) → items bs (length bs) ≡ line_end (length bs
 unfolding items_past
 items-end bs = rw drop-length refl
 
-all_ends : (ends : List Item) (p : ℕ) → AreEnds ends → AreEnds (ends ++ line_end p ∷ [])
-all_ends ends p are = ends_push ends p are
-
 pub only_ends : (is : List Item) (n p : ℕ) → AfterEnds is n (line_end p ∷ []) → AreEnds is
 only_ends is n p h = subst AreEnds (sym h.3) (ends_push h.0 p h.1)
 
@@ -150,12 +147,6 @@ slice_more bs i j le lt =
 
 none_there : (bs : List ℕ) (i : ℕ) → slice_range bs i i ≡ []
 none_there bs i = let none : i - i ≡ 0 = omega arith in rw none refl
-
-pub no_blanks : (bs : List ℕ) (i : ℕ) → list_all is_blank (slice_range bs i i) ≡ true
-no_blanks bs i = rw (none_there bs i) refl
-
-pub no_feeds : (bs : List ℕ) (i : ℕ) → 0 ≡ length (filter is_feed (slice_range bs i i))
-no_feeds bs i = rw (none_there bs i) refl
 
 all_push : (p : ℕ → Bool) (xs : List ℕ) (x : ℕ) → list_all p xs ≡ true → p x ≡ true → list_all p (xs ++ x ∷ []) ≡ true
 all_push p [] x all is = rw is refl

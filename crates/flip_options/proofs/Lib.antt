@@ -6,5 +6,6 @@ pub mod Joining
 pub mod Places
 pub mod Partners
 pub mod Looking
+pub mod FirstLooking
 pub mod Making
 pub mod Descending

@@ -1,13 +1,11 @@
 -- Which faces were looked at again so far, in each loop.
-use Rattle.std.proofs.Common.{◌≡◌, ℕ, ◌+◌, ◌<◌, ◌≤◌, Bool, true, false, not, nat_eq, ◌||◌, ◌&&◌, List, [], ◌∷◌, length, take, get_or, Some, sym, ◌∙◌, ap, refl, subst, arith, ◌⊎◌, inl, inr}
-use Rattle.std.specs.List.{slice_get}
+use Rattle.std.proofs.Common.{◌≡◌, ℕ, ◌+◌, ◌<◌, ◌≤◌, Bool, true, false, not, nat_eq, ◌||◌, ◌&&◌, List, [], ◌∷◌, length, take, get_or, sym, ◌∙◌, ap, refl, subst, arith, ◌⊎◌, inl, inr}
 use Rattle.std.specs.List.Sorted.{IsStrictlySortedBy}
 use Rattle.std.specs.Ordering.{nat_cmp}
 use Rattle.std.specs.Cmp.{second_so}
 use Rattle.std.specs.Cmp.Derive.{both_true}
 use Rattle.std.proofs.lemmas.Bool.{cases_lt, or_cases}
 use Rattle.std.proofs.lemmas.List.{take_more, take_all}
-use Rattle.std.proofs.lemmas.Option.{none-some, same_Some}
 use Rattle.complex_core.proofs.Sets.{above_tail}
 use Rattle.complex_core.specs.Labels.{IsFace, has, holds, union, without}
 use Rattle.complex_core.specs.Links.{less}
@@ -15,9 +13,9 @@ use Rattle.complex_core.specs.Complexes.{ComplexView, over, is_facet}
 use Rattle.complex_core.specs.Subsets.{IsSubset}
 use Rattle.complex_core.proofs.Laws.{has-union, has-without, holds_each, or_left, or_right, listed, listed-append, listed-filter, nat_eq_same, same_labels, sorted_union, length-without}
 use Rattle.flip_rules.proofs.Links.{side}
-use Rattle.stars.specs.StarViews.{StarList, IsStarListOf, star_at, places_in}
-use Rattle.flip_options.specs.Candidates.{Candidates, Refreshed, IsPart, IsPartBelow, IsPartAt, IsLinked}
-use Rattle.flip_options.proofs.Refreshing.{refreshed_then, refreshed_so}
+use Rattle.stars.specs.StarViews.{StarList, IsStarListOf}
+use Rattle.flip_options.specs.Candidates.{Candidates, Refreshed, FirstLook, IsPartBelow, IsPartAt, IsLinked}
+use Rattle.flip_options.proofs.Refreshing.{refreshed_then, refreshed_so, first_then}
 use Rattle.flip_options.proofs.Joining.{next_row}
 use Rattle.complex_core.proofs.SubsetLists.{clash}
 use Rattle.complex_core.proofs.Members.{sorted_less, has-less}
@@ -42,39 +40,6 @@ parts_next s m n o set size p q = refreshed_then s m n o (λ k a. IsPartBelow si
   | inr g ↦ let e : t.size ≡ size = omega (arith, g, t.high) in let P : ℕ → Type 0 = λ z. IsSubset set z a in inr (subst P e t.is)
 ])
 
--- ---- the facets of a star
-
-pub record PartSoFar (rows : List (List ℕ)) (place i : ℕ) (k : ComplexView) (a : List ℕ) : Type 0 where
-  pub facet : List ℕ
-  pub there : is_facet (take i rows) facet ≡ true
-  pub first : slice_get facet 0 ≡ Some place
-  pub is : IsPart k facet a
-
-pub star_next : (s : StarList) (m n o : Candidates) (rows : List (List ℕ)) (place i : ℕ) (x : List ℕ) → Refreshed s m n (λ k a. PartSoFar rows place i k a) → Refreshed s n o (λ k a. IsPart k x a) → i < length rows → x ≡ get_or rows i x → Refreshed s m o (λ k a. PartSoFar rows place (i + 1) k a)
-star_next s m n o rows place i x p q l e = refreshed_then s m n o (λ k a. PartSoFar rows place i k a) (λ k a. IsPart k x a) (λ k a. PartSoFar rows place (i + 1) k a) p q (λ k h a t. elim (next_set rows i x t.facet l e t.there) [
-  | inl u ↦ inl (record { facet = t.facet; there = u; first = t.first; is = t.is })
-  | inr u ↦ let P : List ℕ → Type 0 = λ f. IsPart k f a in inr (subst P u t.is)
-])
-
-pub star_skip : (s : StarList) (m n : Candidates) (rows : List (List ℕ)) (place i : ℕ) (x : List ℕ) → Refreshed s m n (λ k a. PartSoFar rows place i k a) → (slice_get x 0 ≡ Some place → ⊥) → i < length rows → x ≡ get_or rows i x → Refreshed s m n (λ k a. PartSoFar rows place (i + 1) k a)
-star_skip s m n rows place i x p other_first l e = refreshed_so s m n (λ k a. PartSoFar rows place i k a) (λ k a. PartSoFar rows place (i + 1) k a) p (λ k h a t. elim (next_set rows i x t.facet l e t.there) [
-  | inl u ↦ record { facet = t.facet; there = u; first = t.first; is = t.is }
-  | inr u ↦ absurd (other_first (ap (λ f. slice_get f 0) (sym u) ∙ t.first))
-])
-
--- the least label of a facet is one of its labels
-first_has : (f : List ℕ) (x : ℕ) → slice_get f 0 ≡ Some x → has f x ≡ true
-first_has [] x e = absurd (none-some x e)
-first_has (y ∷ ys) x e = or_left (nat_eq y x) (has ys x) (ap (λ z. nat_eq z x) (same_Some y x e) ∙ nat_eq_same x)
-
-pub star_end : (s : StarList) (m n : Candidates) (rows : List (List ℕ)) (place i : ℕ) → Refreshed s m n (λ k a. PartSoFar rows place i k a) → length rows ≤ i → rows ≡ star_at s place → 0 < place → place ≤ places_in s → Refreshed s m n (λ k a. IsPartAt k place a)
-star_end s m n rows place i p l is low high = refreshed_so s m n (λ k a. PartSoFar rows place i k a) (λ k a. IsPartAt k place a) p (λ k h a t. record {
-  facet = t.facet;
-  there = ap (λ fs. is_facet fs t.facet) (take_all i rows l ∙ is ∙ h.stars place low high) ∙ listed-filter (λ g. holds g (place ∷ [])) k.facets t.facet ∙ both_true t.there (both_true (first_has t.facet place t.first) refl);
-  first = t.first;
-  is = t.is;
-})
-
 -- ---- all places
 
 pub record PlacedBelow (place : ℕ) (k : ComplexView) (a : List ℕ) : Type 0 where
@@ -82,8 +47,8 @@ pub record PlacedBelow (place : ℕ) (k : ComplexView) (a : List ℕ) : Type 0 w
   pub high : at < place
   pub is : IsPartAt k (at + 1) a
 
-pub places_next : (s : StarList) (m n o : Candidates) (place : ℕ) → Refreshed s m n (λ k a. PlacedBelow place k a) → Refreshed s n o (λ k a. IsPartAt k (place + 1) a) → Refreshed s m o (λ k a. PlacedBelow (place + 1) k a)
-places_next s m n o place p q = refreshed_then s m n o (λ k a. PlacedBelow place k a) (λ k a. IsPartAt k (place + 1) a) (λ k a. PlacedBelow (place + 1) k a) p q (λ k h a t. elim (cases_lt t.at place) [
+pub places_next : (s : StarList) (m n o : Candidates) (place : ℕ) → FirstLook s m n (λ k a. PlacedBelow place k a) → FirstLook s n o (λ k a. IsPartAt k (place + 1) a) → FirstLook s m o (λ k a. PlacedBelow (place + 1) k a)
+places_next s m n o place p q = first_then s m n o (λ k a. PlacedBelow place k a) (λ k a. IsPartAt k (place + 1) a) (λ k a. PlacedBelow (place + 1) k a) p q (λ k h a t. elim (cases_lt t.at place) [
   | inl l ↦ inl (record { at = t.at; high = l; is = t.is })
   | inr g ↦ let e : t.at ≡ place = omega (arith, g, t.high) in let P : ℕ → Type 0 = λ z. IsPartAt k (z + 1) a in inr (subst P e t.is)
 ])

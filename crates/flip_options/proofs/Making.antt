@@ -6,57 +6,50 @@ use Rattle.std.specs.Map.{lookup}
 use Rattle.std.specs.Ordering.{nat_cmp}
 use Rattle.std.specs.BTreeMap.{get, is_at, IsOrdered}
 use Rattle.std.proofs.lemmas.Option.{none-some, same_Some}
-use Rattle.complex_core.specs.Labels.{has, union}
-use Rattle.complex_core.specs.Complexes.{ComplexView, is_facet}
+use Rattle.complex_core.specs.Labels.{has, holds, union}
+use Rattle.complex_core.specs.Complexes.{ComplexView}
 use Rattle.complex_core.proofs.Sets.{above_tail}
-use Rattle.complex_core.proofs.Laws.{length-union_apart, or_left, nat_eq_same}
+use Rattle.complex_core.proofs.Laws.{holds_has, length-union_apart, listed, or_left, nat_eq_same}
 use Rattle.flip_rules.specs.Flips.{flipped, Legal}
 use Rattle.flip_rules.specs.declared.flip.Flip.{Flip}
-use Rattle.flip_rules.proofs.Links.{side, side_holds}
 use Rattle.flip_rules.proofs.Legal.{legal}
 use Rattle.stars.specs.StarViews.{StarList, IsStarListOf, places_in}
 use Rattle.descent_laws.specs.Descents.{IsReducing, IsMinimal, IsBest, AreCandidates}
-use Rattle.descent_laws.proofs.Reducing.{two_at_least}
 use Rattle.descent_laws.proofs.Candidates.{first_is_best, none_is_minimal}
-use Rattle.flip_options.specs.Candidates.{Candidates, key_cmp, key_of, flip_from, flips_of, is_sized, Refreshed, IsPart, MeetsSide}
+use Rattle.flip_options.specs.Candidates.{Candidates, key_cmp, key_of, flip_from, flips_of, is_sized, Refreshed, FirstLook, IsPart, MeetsSide}
 use Rattle.flip_options.specs.OptionViews.{AreOptions, IsStep}
 use Rattle.flip_options.proofs.Entries.{right_from, candidates_made}
 use Rattle.flip_options.proofs.Refreshing.{refreshed_then}
-use Rattle.flip_options.proofs.Flipping.{linked, flip_right}
+use Rattle.flip_options.proofs.Flipping.{flip_right}
 use Rattle.flip_options.proofs.Looking.{PlacedBelow}
 use Rattle.flip_options.proofs.Places.{place_high, place_low}
 use Rattle.std.proofs.lemmas.Bool.{false_from_ne_true}
 use Rattle.complex_core.proofs.SubsetLists.{clash}
-use Rattle.complex_core.proofs.SetLists.{pure_at}
+use Rattle.complex_core.proofs.SetLists.{found_set}
 
 some_first : (f : List ℕ) → 0 < length f → (p : ℕ) × (slice_get f 0 ≡ Some p) × (has f p ≡ true)
 some_first [] n = absurd (omega (arith, n))
 some_first (p ∷ rest) n = (p, refl, or_left (nat_eq p p) (has rest p) (nat_eq_same p))
 
--- the A of a candidate is a part of some facet
+-- the A of a candidate is a face that is looked at
 placed : (k : ComplexView) (s : StarList) (a b : List ℕ) → IsStarListOf k s → IsReducing k (flip_from a b) → PlacedBelow (places_in s) k a
 placed k s a b h r =
     let l : Legal k a b = legal k a b r.legal in
-    let y : (y : ℕ) × (slice_get b 0 ≡ Some y) × (has b y ≡ true) = some_first b (omega (arith, two_at_least k (flip_from a b) r)) in
-    let there : is_facet k.facets (side a b y.0) ≡ true = (linked k k a b refl r).there y.0 y.2 in
-    let x : (x : ℕ) × (slice_get (side a b y.0) 0 ≡ Some x) × (has (side a b y.0) x ≡ true) = some_first (side a b y.0) (omega (arith, (pure_at k.dim k.facets (side a b y.0) h.complex.pure there).size)) in
-    let low : 0 < x.0 = place_low k (side a b y.0) x.0 h.complex there x.2 in
+    let x : (x : ℕ) × (slice_get a 0 ≡ Some x) × (has a x ≡ true) = some_first a (omega (arith, l.shape.first)) in
+    let f : (f : List ℕ) × (listed k.facets f ≡ true) × (holds f a ≡ true) = found_set (λ f. holds f a) k.facets l.face in
+    let there : has f.0 x.0 ≡ true = holds_has f.0 a x.0 f.2 x.2 in
+    let low : 0 < x.0 = place_low k f.0 x.0 h.complex f.1 there in
     let e : x.0 ≡ x.0 - 1 + 1 = omega (arith, low) in
     record {
       at = x.0 - 1;
-      high = omega (arith, low, place_high k s (side a b y.0) x.0 h there x.2);
-      is = record {
-        facet = side a b y.0;
-        there = there;
-        first = x.1 ∙ ap Some e;
-        is = record { face = r.faces.first; part = side_holds a b y.0; some = omega (arith, l.shape.first); few = omega (arith, l.shape.sizes, r.high) };
-      };
+      high = omega (arith, low, place_high k s f.0 x.0 h f.1 there);
+      is = record { first = x.1 ∙ ap Some e; face = r.faces.first; held = l.face; few = omega (arith, l.shape.sizes, r.high) };
     }
 
 none_at : (m : Candidates) (q : ℕ × List ℕ) → m.entries ≡ [] → get key_cmp m q ≡ None
 none_at m q e = ap (lookup (is_at (key_cmp q))) e
 
-pub of_made : (s : StarList) (m n : Candidates) (place : ℕ) → m.entries ≡ [] → Refreshed s m n (λ k a. PlacedBelow place k a) → places_in s ≤ place → IsOrdered key_cmp n → (k : ComplexView) → IsStarListOf k s → AreOptions k (Some (flips_of n))
+pub of_made : (s : StarList) (m n : Candidates) (place : ℕ) → m.entries ≡ [] → FirstLook s m n (λ k a. PlacedBelow place k a) → places_in s ≤ place → IsOrdered key_cmp n → (k : ComplexView) → IsStarListOf k s → AreOptions k (Some (flips_of n))
 of_made s m n place e r l o k h = record {
   flips = flips_of n;
   kept = refl;
@@ -64,7 +57,7 @@ of_made s m n place e r l o k h = record {
     | inr right ↦ right
     | inl same ↦ record {
       sound = λ b g. absurd (none-some b (sym (same ∙ none_at m (key_of a) e) ∙ g));
-      complete = λ b g. (r.done k h a (wider (placed k s a b h g))).complete b g;
+      complete = λ b g. (r.done k h a (wider (placed k s a b h g)) (none_at m (key_of a) e)).complete b g;
     }
   ]);
 }

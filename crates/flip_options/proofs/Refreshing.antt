@@ -14,7 +14,7 @@ use Rattle.flip_rules.specs.declared.flip.Flip.{Flip}
 use Rattle.stars.specs.StarViews.{StarList, IsStarListOf}
 use Rattle.descent_laws.specs.Descents.{IsReducing}
 use Rattle.descent_laws.proofs.Reducing.{first_determines}
-use Rattle.flip_options.specs.Candidates.{Candidates, key_cmp, key_of, flip_from, is_sized, Decides, IsRight, Refreshed}
+use Rattle.flip_options.specs.Candidates.{Candidates, key_cmp, key_of, flip_from, is_sized, Decides, IsRight, Refreshed, FirstLook}
 use Rattle.flip_options.proofs.Keys.{tied_key, same_key}
 use Rattle.complex_core.proofs.SubsetLists.{two}
 
@@ -38,6 +38,35 @@ refreshed_then s m n o P Q R p q h = record {
 -- what is done includes this
 pub refreshed_so : (s : StarList) (m n : Candidates) (P R : ComplexView → List ℕ → Type 0) → Refreshed s m n P → ((k : ComplexView) → IsStarListOf k s → (a : List ℕ) → R k a → P k a) → Refreshed s m n R
 refreshed_so s m n P R p h = record { sized = p.sized; each = p.each; done = λ k i a r. p.done k i a (h k i a r) }
+
+-- ---- for the first time
+
+pub first_then : (s : StarList) (m n o : Candidates) (P Q R : ComplexView → List ℕ → Type 0) → FirstLook s m n P → FirstLook s n o Q → ((k : ComplexView) → IsStarListOf k s → (a : List ℕ) → R k a → P k a ⊎ Q k a) → FirstLook s m o R
+first_then s m n o P Q R p q h = record {
+  sized = λ t. q.sized (p.sized t);
+  each = λ k i a. elim (q.each k i a) [
+    | inr right ↦ inr right
+    | inl same ↦ elim (p.each k i a) [ inl before ↦ inl (same ∙ before) | inr right ↦ inr (right_moved k n o a right same) ]
+  ];
+  done = λ k i a r none. elim (h k i a r) [
+    | inl t ↦ kept k i a (p.done k i a t none)
+    | inr t ↦ elim (p.each k i a) [ inl same ↦ q.done k i a t (same ∙ none) | inr right ↦ kept k i a right ]
+  ];
+}
+  where
+    kept : (k : ComplexView) → IsStarListOf k s → (a : List ℕ) → IsRight k n a → IsRight k o a
+    kept k i a right = elim (q.each k i a) [ inl same ↦ right_moved k n o a right same | inr now ↦ now ]
+
+pub first_look_so : (s : StarList) (m n : Candidates) (P R : ComplexView → List ℕ → Type 0) → FirstLook s m n P → ((k : ComplexView) → IsStarListOf k s → (a : List ℕ) → R k a → P k a) → FirstLook s m n R
+first_look_so s m n P R p h = record { sized = p.sized; each = p.each; done = λ k i a r. p.done k i a (h k i a r) }
+
+-- no look, where no flip reduces
+pub none_looked : (s : StarList) (m : Candidates) (R : ComplexView → List ℕ → Type 0) → ((k : ComplexView) → IsStarListOf k s → (a b : List ℕ) → R k a → IsReducing k (flip_from a b) → ⊥) → FirstLook s m m R
+none_looked s m R h = record {
+  sized = λ t. t;
+  each = λ k i a. inl refl;
+  done = λ k i a r none. record { sound = λ b g. absurd (none-some b (sym none ∙ g)); complete = λ b red. absurd (h k i a b r red) };
+}
 
 -- ---- one face
 

@@ -1,12 +1,12 @@
 -- The table from A to B that holds the candidates, and what it knows of a complex.
-use Rattle.std.specs.Prelude.{◌≡◌, ℕ, ◌+◌, ◌*◌, ◌<◌, ◌≤◌, ◌⊎◌, Bool, true, false, nat_eq, List, length, map, Option, Some, None}
+use Rattle.std.specs.Prelude.{◌≡◌, ℕ, ◌+◌, ◌*◌, ◌<◌, ◌≤◌, ◌⊎◌, Bool, true, false, nat_eq, List, ◌∷◌, ◌++◌, length, map, Option, Some, None}
 use Rattle.std.specs.List.{list_all, slice_get}
 use Rattle.std.specs.List.Sorted.{IsStrictlySortedBy}
 use Rattle.std.specs.Ordering.{nat_cmp, ordering_then}
 use Rattle.std.specs.BTreeMap.{BTreeMap, get}
 use Rattle.std.specs.declared.cmp.Ordering.{Ordering}
 use Rattle.complex_core.specs.Labels.{IsFace, has, holds, union, without, face_cmp}
-use Rattle.complex_core.specs.Complexes.{ComplexView, over, is_facet}
+use Rattle.complex_core.specs.Complexes.{ComplexView, over, is_facet, is_held}
 use Rattle.complex_core.specs.Subsets.{IsSubset}
 use Rattle.flip_rules.specs.declared.flip.Flip.{Flip}
 use Rattle.stars.specs.StarViews.{StarList, IsStarListOf}
@@ -54,6 +54,12 @@ pub record Refreshed (stars : StarList) (was now : Candidates) (Done : ComplexVi
   pub each : (k : ComplexView) → IsStarListOf k stars → (a : List ℕ) → (get key_cmp now (key_of a) ≡ get key_cmp was (key_of a)) ⊎ IsRight k now a
   pub done : (k : ComplexView) → IsStarListOf k stars → (a : List ℕ) → Done k a → IsRight k now a
 
+-- what a first look at some faces does: at each face the table stays as it was or is right, and it is right at those done of which it knew nothing
+pub record FirstLook (stars : StarList) (was now : Candidates) (Done : ComplexView → List ℕ → Type 0) : Type 0 where
+  pub sized : is_sized was ≡ true → is_sized now ≡ true
+  pub each : (k : ComplexView) → IsStarListOf k stars → (a : List ℕ) → (get key_cmp now (key_of a) ≡ get key_cmp was (key_of a)) ⊎ IsRight k now a
+  pub done : (k : ComplexView) → IsStarListOf k stars → (a : List ℕ) → Done k a → get key_cmp was (key_of a) ≡ None → IsRight k now a
+
 -- ---- which faces are looked at
 
 -- the set has the labels of another, and those of each row over it
@@ -85,12 +91,20 @@ pub record IsPartBelow (most : ℕ) (set a : List ℕ) : Type 0 where
   pub high : size < most
   pub is : IsSubset set size a
 
--- a part of some facet whose least label this is
+-- a face of the complex with this least label, which may be the A of a flip of an index above d/2
 pub record IsPartAt (k : ComplexView) (label : ℕ) (a : List ℕ) : Type 0 where
-  pub facet : List ℕ
-  pub there : is_facet k.facets facet ≡ true
-  pub first : slice_get facet 0 ≡ Some label
-  pub is : IsPart k facet a
+  pub first : slice_get a 0 ≡ Some label
+  pub face : IsFace a
+  pub held : is_held k.facets a ≡ true
+  pub few : 2 * length a < k.dim + 2
+
+-- a face of the complex that a face becomes with some of so many labels more, which are above its last one
+pub record IsGrown (k : ComplexView) (face : List ℕ) (last others : ℕ) (a : List ℕ) : Type 0 where
+  pub rest : List ℕ
+  pub is : a ≡ face ++ rest
+  pub rises : IsStrictlySortedBy nat_cmp (last ∷ rest)
+  pub few : length rest ≤ others
+  pub held : is_held k.facets a ≡ true
 
 -- the facets A ∪ (B less b) are all there
 pub record IsLinked (k : ComplexView) (a b : List ℕ) : Type 0 where

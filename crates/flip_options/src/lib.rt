@@ -9,6 +9,7 @@
 mod candidates;
 mod descended;
 mod descent;
+mod first_look;
 mod laws;
 mod options;
 mod partner;

@@ -7,7 +7,8 @@ ghost use Rattle.descent_laws.specs.Descents.{IsMinimal, IsBest};
 ghost use Rattle.flip_options.specs.OptionViews.{AreOptions, IsStep};
 
 use crate::candidates::{Candidates, first_flip};
-use crate::refresh::{refresh_parts, refresh_side, refresh_star};
+use crate::first_look::look_at_place;
+use crate::refresh::{refresh_parts, refresh_side};
 use flip_rules::Flip;
 use stars::StarMap;
 use std::alloc::{AllocError, Global};
@@ -36,14 +37,14 @@ impl Model for Options {
 }
 
 impl Options {
-    /// The options of the complex whose stars these are, in one pass over its facets.
+    /// The options of the complex whose stars these are. Each face is looked at once.
     pub fn of(alloc: Global, stars: &StarMap) -> Result<Options, AllocError>
         requires { (k : ComplexView) × IsStarListOf k stars.now }
         ensures { (k : ComplexView) → IsStarListOf k stars.now → IfOk result (AreOptions k) }
     {
         let mut candidates = BTreeMap::new(alloc);
         for place in 0..stars.places() {
-            refresh_star(alloc, &mut candidates, stars, place + 1)?;
+            look_at_place(alloc, &mut candidates, stars, place + 1)?;
         }
         let _ordered = candidates.len();
         Ok(Options {

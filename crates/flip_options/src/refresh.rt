@@ -1,9 +1,9 @@
 // Looks again at the faces of which a flip may have changed the candidates.
-ghost use Rattle.std.specs.Prelude.{◌≡◌, ◌↔◌, ℕ, ◌+◌, ◌<◌, ◌≤◌, List, length, OnOk, IsTrue, Some, slice_get};
+ghost use Rattle.std.specs.Prelude.{◌≡◌, ℕ, ◌+◌, ◌<◌, ◌≤◌, List, length, OnOk};
 ghost use Rattle.complex_core.specs.Complexes.{ComplexView};
 ghost use Rattle.complex_core.specs.Subsets.{IsSubset};
-ghost use Rattle.stars.specs.StarViews.{IsStarListOf, places_in};
-ghost use Rattle.flip_options.specs.Candidates.{Refreshed, IsPart, IsPartAt, IsLinked, MeetsSide};
+ghost use Rattle.stars.specs.StarViews.{IsStarListOf};
+ghost use Rattle.flip_options.specs.Candidates.{Refreshed, IsPart, IsLinked, MeetsSide};
 
 use crate::candidates::{Candidates, refresh};
 use crate::smallest_star::near;
@@ -11,8 +11,8 @@ use complex_core::Face;
 use stars::StarMap;
 use std::alloc::{AllocError, Global};
 
-// How many labels A has at most, in a flip of an index above d/2.
-fn most_labels(stars: &StarMap) -> usize
+/// How many labels A has at most, in a flip of an index above d/2.
+pub(crate) fn most_labels(stars: &StarMap) -> usize
     requires { (k : ComplexView) × IsStarListOf k stars.now }
     ensures { (k : ComplexView) → IsStarListOf k stars.now → (result + result ≤ k.dim + 1) × (k.dim ≤ result + result) × (result ≤ 3) }
 {
@@ -48,36 +48,6 @@ pub(crate) fn refresh_parts(
 {
     for size in 1..most_labels(stars) + 1 {
         refresh_sized(alloc, candidates, stars, set, size)?;
-    }
-    Ok(())
-}
-
-// Whether the least label of a facet is this one.
-fn begins_with(facet: &Face, label: u16) -> bool
-    ensures { IsTrue result ↔ (slice_get facet.now 0 ≡ Some label) }
-{
-    match facet.labels().first() {
-        Some(first) => *first == label,
-        None => false,
-    }
-}
-
-/// Looks again at the parts of the facets whose least label is this place.
-pub(crate) fn refresh_star(
-    alloc: Global,
-    candidates: &mut Candidates,
-    stars: &StarMap,
-    place: u16,
-) -> Result<(), AllocError>
-    requires stars { (k : ComplexView) × IsStarListOf k stars.now }
-    requires low { 0 < place }
-    requires high { place ≤ places_in stars.now }
-    ensures { OnOk result (Refreshed stars.now candidates.old candidates.new (λ k a. IsPartAt k place a)) }
-{
-    for facet in stars.star(place).rows() {
-        if begins_with(facet, place) {
-            refresh_parts(alloc, candidates, stars, facet)?;
-        }
     }
     Ok(())
 }

@@ -1,7 +1,7 @@
 -- What a gate hears, step after step.
 use Rattle.std.proofs.Common.{◌≡◌, ℕ, ◌+◌, Bool, false, cond, List, [], ◌∷◌, length, Option, Some, None, ◌∙◌, ap, refl, subst, arith}
 use Rattle.board_rule.specs.Tries.{Try, at_last, noted_at, refused_at}
-use Rattle.board_rule.specs.declared.data.VersionedStar.{VersionedStar}
+use Rattle.board_rule.specs.Homes.{VersionedStar}
 use Rattle.board_rule.specs.declared.view.PassView.{PassView}
 use Rattle.held_stars.specs.Gates.{Heard, Follows, Keeps, after_asked, noted_in}
 use Rattle.held_stars.specs.Holding.{waits}

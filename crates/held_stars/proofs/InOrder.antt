@@ -5,7 +5,7 @@ use Rattle.complex_core.specs.Labels.{has}
 use Rattle.complex_core.proofs.Laws.{or_left, or_right, nat_eq_same}
 use Rattle.complex_core.proofs.SubsetLists.{two}
 use Rattle.board_rule.specs.Items.{has_item}
-use Rattle.board_rule.specs.declared.data.VersionedStar.{VersionedStar}
+use Rattle.board_rule.specs.Homes.{VersionedStar}
 use Rattle.board_rule.proofs.Items.{off}
 use Rattle.held_stars.specs.Holding.{RefusedOf, EndedAt}
 use Rattle.held_stars.specs.declared.stopped.Stopped.{Stopped}

@@ -1,279 +1,203 @@
--- Stars that are taken from their slots and put back.
-use Rattle.std.proofs.Common.{◌≡◌, ◌≢◌, ℕ, zero, suc, eqb, ◌+◌, ◌<◌, ◌≤◌, Bool, true, false, cond, nat_eq, ◌||◌, List, [], ◌∷◌, ◌++◌, length, take, get_or, sym, ◌∙◌, ap, refl, subst, arith}
-use Rattle.std.specs.List.{AllByRecursion, list_any}
+-- Stars that are lent: their order, what is true of each, and their rooms.
+use Rattle.std.proofs.Common.{◌≡◌, ◌≢◌, ◌⊎◌, inl, inr, ℕ, zero, suc, ◌+◌, ◌<◌, ◌≤◌, Bool, true, false, nat_eq, nat_lt, ◌||◌, List, [], ◌∷◌, ◌++◌, length, map, take, drop, get_or, Some, sym, ◌∙◌, ap, refl, subst, arith}
+use Rattle.std.specs.List.{AllByRecursion, insert}
 use Rattle.std.specs.Ordering.{nat_cmp}
-use Rattle.std.proofs.lemmas.Bool.Decides.{nat_tests}
-use Rattle.std.proofs.lemmas.List.{length-append, take_more}
+use Rattle.std.specs.List.Sorted.{IsStrictlySortedBy, IsPartitionPoint}
+use Rattle.std.proofs.lemmas.Bool.{ltb-true, ltb-false}
+use Rattle.std.proofs.lemmas.Cmp.{nat_cmp_total}
 use Rattle.std.proofs.lemmas.Map.Keys.{below_from_sorted}
 use mathlib.Core.Option.{some, some-injective}
 use Rattle.complex_core.specs.Labels.{IsRising, has}
 use Rattle.complex_core.specs.Complexes.{ComplexView}
-use Rattle.complex_core.proofs.Laws.{both_false}
-use Rattle.complex_core.proofs.Sets.{above_tail}
-use Rattle.stars.specs.StarViews.{VertexStar, vertices, IsStarOf}
-use Rattle.board_rule.specs.Items.{item, has_item}
-use Rattle.board_rule.specs.Views.{home, star_in}
-use Rattle.board_rule.specs.declared.data.VersionedStar.{VersionedStar}
+use Rattle.complex_core.proofs.Faces.{cmp_less}
+use Rattle.complex_core.proofs.Laws.{or_left, or_right, nat_eq_same}
+use Rattle.complex_core.proofs.Members.{has_place}
+use Rattle.complex_core.proofs.Sets.{above_cons, above_head, above_tail, above_lower}
+use Rattle.star_laws.specs.Stars.{star}
+use Rattle.stars.specs.StarViews.{VertexStar, KeptStar, vertices, shown, rooms, counts, EachAtMost, IsStarOf}
+use Rattle.stars.proofs.Finding.{vertex_at, shown_at, length-shown, length-vertices}
+use Rattle.board_rule.specs.Homes.{VersionedStar}
+use Rattle.board_rule.specs.Views.{star_in}
 use Rattle.board_rule.specs.declared.data.Slot.TheVariants.{Home}
-use Rattle.board_rule.specs.declared.view.PassView.{PassView}
-use Rattle.board_rule.proofs.Items.{tested, off, some_of}
-use Rattle.vertex_claims.specs.Passes.{IsSame, know, slot, spare, Puts}
+use Rattle.board_rule.proofs.Items.{off}
+use Rattle.vertex_claims.specs.Passes.{IsSame}
 use Rattle.vertex_claims.specs.declared.pass.Pass.{Pass}
-use Rattle.held_stars.specs.Holding.{Lends, Hosts, Emptied, with_copies}
-use Rattle.complex_core.proofs.Members.{each_push, has_snoc}
-use Rattle.stars.proofs.Adding.{not_before}
-use Rattle.stars.proofs.Asking.{star_there}
-
--- ---- rising labels
-
-pub positive_at : (xs : List ℕ) (i : ℕ) → IsRising xs → i < length xs → 0 < get_or xs i 0
-positive_at xs i r l = below_from_sorted (0 ∷ xs) 0 (suc i) 0 r (omega arith) (omega (arith, l))
-
--- a label isn't among those before it
-pub fresh_at : (xs : List ℕ) (i : ℕ) → IsRising xs → i < length xs → has (take i xs) (get_or xs i 0) ≡ false
-fresh_at xs i r l = not_before xs i (above_tail nat_cmp 0 xs r) l
-
--- ---- one exchange
-
--- the slot of p gets a star, and so other places are lent
-pub exchanged : (a b : Pass) (k : ComplexView) (lent more : List ℕ) (p : ℕ) (star : VertexStar) → know b ≡ know a → ((x : VersionedStar) → slot a p ≡ some (Home x) → Puts a b p (some (Home (home star x.version))))
-    → has_item (know a).items p ≡ true → (has more p ≡ false → star ≡ star_in k p) → ((q : ℕ) → q ≢ p → has more q ≡ false → has lent q ≡ false) → Lends a k lent → Lends b k more
-exchanged a b k lent more p star same puts held here else lends q x at =
-    let old : item (know a).items q ≡ some x = ap (λ (h : PassView). item h.items q) (sym same) ∙ at in
-    let l = lends q x old in
-    let xp = some_of (know a).items p held in
-    let lp = lends p xp.0 xp.1 in
-    let put : slot b q ≡ cond (eqb p q) (some (Home (home star xp.0.version))) (slot a q) = puts (home lp.0 xp.0.version) lp.1 q in
-    tested p q (λ t. slot b q ≡ cond t (some (Home (home star xp.0.version))) (slot a q) → (s : VertexStar) × (slot b q ≡ some (Home (home s x.version))) × (has more q ≡ false → s ≡ star_in k q))
-    (λ e h. let v : xp.0 ≡ x = some-injective xp.0 x (sym xp.1 ∙ (ap (λ (n : ℕ). item (know a).items n) e ∙ old)) in
-    (star, h ∙ ap (λ (y : VersionedStar). some (Home (home star y.version))) v, λ f. here (ap (λ (n : ℕ). has more n) e ∙ f) ∙ ap (star_in k) e))
-    (λ ne h. (l.0, h ∙ l.1, λ f. l.2 (else q (λ e. ne (sym e)) f)))
-    put
-
-pub hosts_lend : (a : Pass) (k : ComplexView) → Hosts a k → Lends a k []
-hosts_lend a k h q x at = (star_in k q, h q x at, λ _. refl)
-
-pub lend_hosts : (a : Pass) (k : ComplexView) → Lends a k [] → Hosts a k
-lend_hosts a k h q x at = let l = h q x at in l.1 ∙ ap (λ (s : VertexStar). some (Home (home s x.version))) (l.2 refl)
-
-pub is_star : (k : ComplexView) (s : VertexStar) → IsStarOf k s → s ≡ star_in k s.vertex
-is_star k s h = λ i. record { vertex = s.vertex; dim = h.dim i; rows = h.rows i }
-
-star_is : (k : ComplexView) (p : ℕ) (s : VertexStar) → s ≡ star_in k p → IsStarOf k s
-star_is k p s e = subst (IsStarOf k) (sym e) record { dim = refl; rows = refl }
-
-pub vertices_snoc : (lent_stars : List VertexStar) (s : VertexStar) → vertices (lent_stars ++ s ∷ []) ≡ vertices lent_stars ++ s.vertex ∷ []
-vertices_snoc [] s = refl
-vertices_snoc (n ∷ lent_stars) s = ap (λ (l : List ℕ). n.vertex ∷ l) (vertices_snoc lent_stars s)
-
-pub each_front : {X : Type 0} (P : X → Type 0) (xs : List X) (y : X) → AllByRecursion P (xs ++ y ∷ []) → AllByRecursion P xs × P y
-each_front P [] y h = (tt, h.0)
-each_front P (x ∷ xs) y h = let r : AllByRecursion P xs × P y = each_front P xs y h.1 in ((h.0, r.0), r.1)
-
--- ---- the loops
-
--- the stars of these labels were lent
-pub record Lending (a b : Pass) (front : List ℕ) (lent_stars : List VertexStar) : Type 0 where
-  pub same : IsSame a b
-  pub known : know b ≡ know a
-  pub spare_is : spare b ≡ spare a
-  pub lent : (k : ComplexView) → Hosts a k → Lends b k front
-  pub stars : (k : ComplexView) → Hosts a k → AllByRecursion (IsStarOf k) lent_stars
-  pub vertices_are : vertices lent_stars ≡ front
-
--- these are still lent
-pub record Returning (a b : Pass) (before lent_stars : List VertexStar) : Type 0 where
-  pub same : IsSame a b
-  pub known : know b ≡ know a
-  pub spare_is : spare b ≡ spare a
-  pub lent : (k : ComplexView) → Lends a k (vertices before) → AllByRecursion (IsStarOf k) before → Lends b k (vertices lent_stars)
-  pub stars : (k : ComplexView) → Lends a k (vertices before) → AllByRecursion (IsStarOf k) before → AllByRecursion (IsStarOf k) lent_stars
-  pub held : (q : ℕ) → has (vertices lent_stars) q ≡ true → has_item (know b).items q ≡ true
+use Rattle.held_stars.specs.Holding.{FitsRoom, Lends, HaveRoom}
 
 pub same_passes : (a b c : Pass) → IsSame a b → IsSame b c → IsSame a c
 same_passes a b c f g = record { table = g.table ∙ f.table; worker = g.worker ∙ f.worker; places = g.places ∙ f.places; limit = g.limit ∙ f.limit }
 
--- the star of one more label is lent
-pub lending_more : (a b c : Pass) (front : List ℕ) (lent_stars : List VertexStar) (p : ℕ) (out star : VertexStar) → Lending a b front lent_stars → IsSame b c → know c ≡ know b → spare c ≡ spare b
-    → ((x : VersionedStar) → slot b p ≡ some (Home x) → out ≡ x.star) → ((x : VersionedStar) → slot b p ≡ some (Home x) → Puts b c p (some (Home (home star x.version))))
-    → has_item (know a).items p ≡ true → has front p ≡ false → (k : ComplexView) → Hosts a k → Lending a c (front ++ p ∷ []) (lent_stars ++ out ∷ [])
-lending_more a b c front lent_stars p out star l same known spares outs puts held fresh k0 hosts0 =
-    let held_b : has_item (know b).items p ≡ true = ap (λ (h : PassView). has_item h.items p) l.known ∙ held in
-    let xp = some_of (know b).items p held_b in
-    let out_is : (k : ComplexView) → Hosts a k → out ≡ star_in k p = λ k hosts. let lp = l.lent k hosts p xp.0 xp.1 in outs (home lp.0 xp.0.version) lp.1 ∙ lp.2 fresh in
-    record {
-      same = same_passes a b c l.same same;
-      known = known ∙ l.known;
-      spare_is = spares ∙ l.spare_is;
-      lent = λ k hosts. exchanged b c k front (front ++ p ∷ []) p star known puts held_b
-          (λ f. off (sym f ∙ (has_snoc front p p ∙ last_true (has front p) (nat_eq p p) (equal p))))
-          (λ q ne f. first_false (has front q) (nat_eq p q) (sym (has_snoc front p q) ∙ f)) (l.lent k hosts);
-      stars = λ k hosts. each_push (IsStarOf k) lent_stars out (l.stars k hosts) (star_is k p out (out_is k hosts));
-      vertices_are = vertices_snoc lent_stars out ∙ (λ i. l.vertices_are i ++ (ap (λ (s : VertexStar). s.vertex) (out_is k0 hosts0)) i ∷ []);
-    }
-  where
-    equal : (n : ℕ) → nat_eq n n ≡ true
-    equal n = grind (arith, nat_tests)
+-- ---- labels
 
-    last_true : (a b : Bool) → b ≡ true → (a || b) ≡ true
-    last_true true b h = refl
-    last_true false b h = h
-
-    first_false : (a b : Bool) → (a || b) ≡ false → a ≡ false
-    first_false true b h = h
-    first_false false b h = refl
-
-pub emptied_none : (d : ℕ) (a : Pass) → Emptied d a a []
-emptied_none d a q = (λ h x at. off h, λ _. refl)
-
--- one more slot gets an empty star
-pub emptied_more : (d : ℕ) (a b c : Pass) (front : List ℕ) (p : ℕ) (star : VertexStar) (was : VersionedStar) → star ≡ record { vertex = p; dim = d; rows = [] } → Emptied d a b front → has front p ≡ false → slot b p ≡ some (Home was)
-    → ((x : VersionedStar) → slot b p ≡ some (Home x) → Puts b c p (some (Home (home star x.version)))) → Emptied d a c (front ++ p ∷ [])
-emptied_more d a b c front p star was is old fresh at puts q = tested p q (λ t. slot c q ≡ cond t (some (Home (home star was.version))) (slot b q) → Now)
-    (λ e put. (
-      λ h x before.
-          let one : some (Home was) ≡ some (Home x) = sym at ∙ ((old p).1 fresh ∙ (ap (slot a) e ∙ before)) in
-          let same : was ≡ x = cc in
-          put ∙ (λ i. some (Home (home ((is ∙ ap (λ (n : ℕ). record { vertex = n; dim = d; rows = [] }) e) i) (same i).version))),
-      λ f. off (sym f ∙ (has_snoc front p q ∙ last_true (has front q) (nat_eq p q) (ap (λ (n : ℕ). nat_eq p n) (sym e) ∙ equal p))),
-    ))
-    (λ ne put. (
-      λ h x before. put ∙ (old q).0 (without_last (has front q) (nat_eq p q) (apart p q ne) (sym (has_snoc front p q) ∙ h)) x before,
-      λ f. put ∙ (old q).1 (first_false (has front q) (nat_eq p q) (sym (has_snoc front p q) ∙ f)),
-    ))
-    (puts was at q)
-  where
-    Now : Type 0
-    Now = (has (front ++ p ∷ []) q ≡ true → (x : VersionedStar) → slot a q ≡ some (Home x) → slot c q ≡ some (Home (home (record { vertex = q; dim = d; rows = [] }) x.version))) × (has (front ++ p ∷ []) q ≡ false → slot c q ≡ slot a q)
-
-    equal : (n : ℕ) → nat_eq n n ≡ true
-    equal n = grind (arith, nat_tests)
-
-    apart : (m n : ℕ) → m ≢ n → nat_eq m n ≡ false
-    apart m n ne = grind (arith, nat_tests)
-
-    last_true : (a b : Bool) → b ≡ true → (a || b) ≡ true
-    last_true true b h = refl
-    last_true false b h = h
-
-    without_last : (a b : Bool) → b ≡ false → (a || b) ≡ true → a ≡ true
-    without_last true b h t = refl
-    without_last false b h t = off (sym h ∙ t)
-
-    first_false : (a b : Bool) → (a || b) ≡ false → a ≡ false
-    first_false true b h = h
-    first_false false b h = refl
-
--- one lent star is put back
-pub returning_more : (a b c : Pass) (before front : List VertexStar) (star : VertexStar) → Returning a b before (front ++ star ∷ []) → IsSame b c → know c ≡ know b → spare c ≡ spare b
-    → ((x : VersionedStar) → slot b star.vertex ≡ some (Home x) → Puts b c star.vertex (some (Home (home star x.version)))) → Returning a c before front
-returning_more a b c before front star l same known spares puts =
-    let has_now : (q : ℕ) → has (vertices (front ++ star ∷ [])) q ≡ (has (vertices front) q || nat_eq star.vertex q) = λ q. ap (λ (vs : List ℕ). has vs q) (vertices_snoc front star) ∙ has_snoc (vertices front) star.vertex q in
-    let held_b : has_item (know b).items star.vertex ≡ true = l.held star.vertex (has_now star.vertex ∙ last_true (has (vertices front) star.vertex) (nat_eq star.vertex star.vertex) (equal star.vertex)) in
-    record {
-      same = same_passes a b c l.same same;
-      known = known ∙ l.known;
-      spare_is = spares ∙ l.spare_is;
-      lent = λ k lends stars. exchanged b c k (vertices (front ++ star ∷ [])) (vertices front) star.vertex star known puts held_b
-          (λ _. is_star k star (each_front (IsStarOf k) front star (l.stars k lends stars)).1)
-          (λ q ne f. has_now q ∙ both_false f (apart star.vertex q (λ e. ne (sym e)))) (l.lent k lends stars);
-      stars = λ k lends stars. (each_front (IsStarOf k) front star (l.stars k lends stars)).0;
-      held = λ q h. ap (λ (v : PassView). has_item v.items q) known ∙ l.held q (has_now q ∙ first_true (has (vertices front) q) (nat_eq star.vertex q) h);
-    }
-  where
-    equal : (n : ℕ) → nat_eq n n ≡ true
-    equal n = grind (arith, nat_tests)
-
-    apart : (m n : ℕ) → m ≢ n → nat_eq m n ≡ false
-    apart m n ne = grind (arith, nat_tests)
-
-    last_true : (a b : Bool) → b ≡ true → (a || b) ≡ true
-    last_true true b h = refl
-    last_true false b h = h
-
-    first_true : (a b : Bool) → a ≡ true → (a || b) ≡ true
-    first_true true b h = refl
-    first_true false b h = off h
-
--- the star of a place that is lent no more has a slot
-pub has_slot : (a : Pass) (k : ComplexView) (lent : List ℕ) (p : ℕ) → Lends a k lent → has_item (know a).items p ≡ true → (x : VersionedStar) × (slot a p ≡ some (Home x))
-has_slot a k lent p l held = let xp = some_of (know a).items p held in let lp = l p xp.0 xp.1 in (home lp.0 xp.0.version, lp.1)
-
-pub lent_none : (a : Pass) → Lending a a [] []
-lent_none a = record {
-  same = record { table = refl; worker = refl; places = refl; limit = refl };
-  known = refl;
-  spare_is = refl;
-  lent = λ k hosts. hosts_lend a k hosts;
-  stars = λ k hosts. tt;
-  vertices_are = refl;
-}
-
--- ---- copies
-
-pub has_one : (copies : List VertexStar) (s : VertexStar) (b : Bool) → b ≡ list_any (λ (t : VertexStar). nat_eq t.vertex s.vertex) copies → b ≡ true → copies ≡ with_copies copies (s ∷ [])
-has_one copies s b is h = sym (ap (λ (t : Bool). cond t copies (copies ++ s ∷ [])) (sym (star_there copies s.vertex) ∙ (sym is ∙ h)))
-
-pub has_none : (copies : List VertexStar) (s : VertexStar) (b : Bool) → b ≡ list_any (λ (t : VertexStar). nat_eq t.vertex s.vertex) copies → b ≡ false → copies ++ s ∷ [] ≡ with_copies copies (s ∷ [])
-has_none copies s b is h = sym (ap (λ (t : Bool). cond t copies (copies ++ s ∷ [])) (sym (star_there copies s.vertex) ∙ (sym is ∙ h)))
-
-pub copies_snoc : (copies lent_stars : List VertexStar) (s : VertexStar) → with_copies copies (lent_stars ++ s ∷ []) ≡ with_copies (with_copies copies lent_stars) (s ∷ [])
-copies_snoc copies [] s = refl
-copies_snoc copies (n ∷ lent_stars) s = copies_snoc (cond (has (vertices copies) n.vertex) copies (copies ++ n ∷ [])) lent_stars s
-
-pub copies_long : (copies : List VertexStar) (s : VertexStar) → length (with_copies copies (s ∷ [])) ≤ length copies + 1
-copies_long copies s = by (has (vertices copies) s.vertex)
-  where
-    by : (b : Bool) → length (cond b copies (copies ++ s ∷ [])) ≤ length copies + 1
-    by true = omega arith
-    by false = simp length-append (omega arith)
-
--- the place of the last lent star is held
-pub last_held : (a b : Pass) (before lent_stars front : List VertexStar) (star : VertexStar) (p : ℕ) → Returning a b before lent_stars → lent_stars ≡ front ++ star ∷ [] → p ≡ star.vertex → has_item (know b).items p ≡ true
-last_held a b before lent_stars front star p l is at =
-    l.held p (ap (λ (ns : List VertexStar). has (vertices ns) p) is ∙ (ap (λ (vs : List ℕ). has vs p) (vertices_snoc front star) ∙ (has_snoc (vertices front) star.vertex p ∙ last (has (vertices front) p) (nat_eq star.vertex p) (equal star.vertex p (sym at)))))
-  where
-    equal : (m n : ℕ) → m ≡ n → nat_eq m n ≡ true
-    equal m n e = grind (arith, nat_tests)
-
-    last : (a b : Bool) → b ≡ true → (a || b) ≡ true
-    last true b h = refl
-    last false b h = h
-
-pub returning_next : (a b c : Pass) (before lent_stars front : List VertexStar) (star : VertexStar) (p : ℕ) → Returning a b before lent_stars → lent_stars ≡ front ++ star ∷ [] → p ≡ star.vertex → IsSame b c → know c ≡ know b → spare c ≡ spare b
-    → ((x : VersionedStar) → slot b p ≡ some (Home x) → Puts b c p (some (Home (home star x.version)))) → Returning a c before front
-returning_next a b c before lent_stars front star p l is at same known spares puts =
-    returning_more a b c before front star (subst (λ (ns : List VertexStar). Returning a b before ns) is l) same known spares
-    (subst (λ (n : ℕ). (x : VersionedStar) → slot b n ≡ some (Home x) → Puts b c n (some (Home (home star x.version)))) at puts)
-
-pub return_none : (a : Pass) (lent_stars : List VertexStar) → ((q : ℕ) → has (vertices lent_stars) q ≡ true → has_item (know a).items q ≡ true) → Returning a a lent_stars lent_stars
-return_none a lent_stars held = record {
-  same = record { table = refl; worker = refl; places = refl; limit = refl };
-  known = refl;
-  spare_is = refl;
-  lent = λ k lends stars. lends;
-  stars = λ k lends stars. stars;
-  held = held;
-}
-
-pub returned : (a b : Pass) (before lent_stars : List VertexStar) → Returning a b before lent_stars → lent_stars ≡ [] → (k : ComplexView) → Lends a k (vertices before) → AllByRecursion (IsStarOf k) before → Hosts b k
-returned a b before lent_stars l is k lends stars = lend_hosts b k (subst (λ (ns : List VertexStar). Lends b k (vertices ns)) is (l.lent k lends stars))
-
-pub lent_all : (a b : Pass) (labels : List ℕ) (i : ℕ) (lent_stars : List VertexStar) → Lending a b (take i labels) lent_stars → take i labels ≡ labels → Lending a b labels lent_stars
-lent_all a b labels i lent_stars l e = subst (λ (front : List ℕ). Lending a b front lent_stars) e l
-
-pub copies_next : (was lent_stars now next : List VertexStar) (i : ℕ) (s : VertexStar) → i < length lent_stars → now ≡ with_copies was (take i lent_stars) → next ≡ with_copies now (s ∷ []) → s ≡ get_or lent_stars i s → next ≡ with_copies was (take (i + 1) lent_stars)
-copies_next was lent_stars now next i s l e f at =
-    f ∙ (ap (λ (ns : List VertexStar). with_copies ns (s ∷ [])) e ∙ (sym (copies_snoc was (take i lent_stars) s) ∙ ap (with_copies was) (sym (take_more lent_stars i s l ∙ ap (λ (t : VertexStar). take i lent_stars ++ t ∷ []) (sym at)))))
-
-pub kept_there : (copies shown : List VertexStar) (s : VertexStar) (p : ℕ) (b : Bool) → shown ≡ copies → p ≡ s.vertex → b ≡ list_any (λ (t : VertexStar). nat_eq t.vertex p) shown → b ≡ true → copies ≡ with_copies copies (s ∷ [])
-kept_there copies shown s p b is at e h = has_one copies s b (e ∙ (λ i. list_any (λ (t : VertexStar). nat_eq t.vertex (at i)) (is i))) h
-
-pub kept_here : (copies shown now : List VertexStar) (s t : VertexStar) (p : ℕ) (b : Bool) → shown ≡ copies → p ≡ s.vertex → b ≡ list_any (λ (t : VertexStar). nat_eq t.vertex p) shown → b ≡ false → now ≡ copies ++ t ∷ [] → t ≡ s → now ≡ with_copies copies (s ∷ [])
-kept_here copies shown now s t p b is at e h put same = put ∙ (ap (λ (u : VertexStar). copies ++ u ∷ []) same ∙ has_none copies s b (e ∙ (λ i. list_any (λ (u : VertexStar). nat_eq u.vertex (at i)) (is i))) h)
+pub positive_at : (xs : List ℕ) (i : ℕ) → IsRising xs → i < length xs → 0 < get_or xs i 0
+positive_at xs i r l = below_from_sorted (0 ∷ xs) 0 (suc i) 0 r (omega arith) (omega (arith, l))
 
 pub take_all : (xs : List ℕ) (i : ℕ) → length xs ≤ i → take i xs ≡ xs
 take_all [] zero l = refl
 take_all [] (suc i) l = refl
 take_all (x ∷ xs) zero l = absurd (omega (arith, l))
 take_all (x ∷ xs) (suc i) l = ap (λ (ys : List ℕ). x ∷ ys) (take_all xs i (omega (arith, l)))
+
+or_swap : (a b c : Bool) → (a || (b || c)) ≡ (b || (a || c))
+or_swap true true c = refl
+or_swap true false c = refl
+or_swap false b c = refl
+
+pub has_inserted : (xs : List ℕ) (i x q : ℕ) → has (insert xs i x) q ≡ (nat_eq x q || has xs q)
+has_inserted [] zero x q = refl
+has_inserted [] (suc i) x q = refl
+has_inserted (y ∷ ys) zero x q = refl
+has_inserted (y ∷ ys) (suc i) x q = ap (λ (b : Bool). nat_eq y q || b) (has_inserted ys i x q) ∙ or_swap (nat_eq y q) (nat_eq x q) (has ys q)
+
+-- a label between those below it and those above it
+pub rising_inserted : (low : ℕ) (xs : List ℕ) (i p : ℕ) → IsStrictlySortedBy nat_cmp (low ∷ xs) → low < p → ((j : ℕ) → j < i → j < length xs → get_or xs j 0 < p) → ((j : ℕ) → i ≤ j → j < length xs → p < get_or xs j 0) → IsStrictlySortedBy nat_cmp (low ∷ insert xs i p)
+rising_inserted low [] zero p s l below above = above_cons nat_cmp low (p ∷ []) (cmp_less low p l, tt) (above_cons nat_cmp p [] tt (above_tail nat_cmp low [] s))
+rising_inserted low [] (suc i) p s l below above = above_cons nat_cmp low (p ∷ []) (cmp_less low p l, tt) (above_cons nat_cmp p [] tt (above_tail nat_cmp low [] s))
+rising_inserted low (y ∷ ys) zero p s l below above =
+    let tail : IsStrictlySortedBy nat_cmp (y ∷ ys) = above_tail nat_cmp low (y ∷ ys) s in
+    let first : p < y = above 0 (omega arith) (omega arith) in
+    above_cons nat_cmp low (p ∷ y ∷ ys) (cmp_less low p l, above_head nat_cmp low (y ∷ ys) s) (above_cons nat_cmp p (y ∷ ys) (cmp_less p y first, above_lower nat_cmp_total p y ys (cmp_less p y first) (above_head nat_cmp y ys tail)) tail)
+rising_inserted low (y ∷ ys) (suc i) p s l below above =
+    let tail : IsStrictlySortedBy nat_cmp (y ∷ ys) = above_tail nat_cmp low (y ∷ ys) s in
+    let first : y < p = below 0 (omega arith) (omega arith) in
+    let rest : IsStrictlySortedBy nat_cmp (y ∷ insert ys i p) = rising_inserted y ys i p tail first (λ j a b. below (suc j) (omega (arith, a)) (omega (arith, b))) (λ j a b. above (suc j) (omega (arith, a)) (omega (arith, b))) in
+    let less = (above_head nat_cmp low (y ∷ ys) s).0 in
+    above_cons nat_cmp low (y ∷ insert ys i p) (less, above_lower nat_cmp_total low y (insert ys i p) less (above_head nat_cmp y (insert ys i p) rest)) rest
+
+-- ---- lists
+
+pub length_inserted : (near : List KeptStar) (i : ℕ) (t : KeptStar) → length (insert near i t) ≡ length near + 1
+length_inserted [] zero t = refl
+length_inserted [] (suc i) t = refl
+length_inserted (s ∷ near) zero t = omega arith
+length_inserted (s ∷ near) (suc i) t = let e = length_inserted near i t in omega (arith, e)
+
+pub vertices_inserted : (near : List KeptStar) (i : ℕ) (t : KeptStar) → vertices (shown (insert near i t)) ≡ insert (vertices (shown near)) i t.star.vertex
+vertices_inserted [] zero t = refl
+vertices_inserted [] (suc i) t = refl
+vertices_inserted (s ∷ near) zero t = refl
+vertices_inserted (s ∷ near) (suc i) t = ap (λ (vs : List ℕ). s.star.vertex ∷ vs) (vertices_inserted near i t)
+
+pub vertices_snoc : (near : List VertexStar) (s : VertexStar) → vertices (near ++ s ∷ []) ≡ vertices near ++ s.vertex ∷ []
+vertices_snoc [] s = refl
+vertices_snoc (n ∷ near) s = ap (λ (l : List ℕ). n.vertex ∷ l) (vertices_snoc near s)
+
+pub shown_snoc : (near : List KeptStar) (s : KeptStar) → shown (near ++ s ∷ []) ≡ shown near ++ s.star ∷ []
+shown_snoc [] s = refl
+shown_snoc (n ∷ near) s = ap (λ (l : List VertexStar). n.star ∷ l) (shown_snoc near s)
+
+module _ {X : Type 0} (P : X → Type 0) where
+  pub each_inserted : (xs : List X) (i : ℕ) (x : X) → AllByRecursion P xs → P x → AllByRecursion P (insert xs i x)
+  each_inserted [] zero x h p = (p, tt)
+  each_inserted [] (suc i) x h p = (p, tt)
+  each_inserted (y ∷ ys) zero x h p = (p, h)
+  each_inserted (y ∷ ys) (suc i) x h p = (h.0, each_inserted ys i x h.1 p)
+
+  pub each_front : (xs : List X) (y : X) → AllByRecursion P (xs ++ y ∷ []) → AllByRecursion P xs × P y
+  each_front [] y h = (tt, h.0)
+  each_front (x ∷ xs) y h = let r : AllByRecursion P xs × P y = each_front xs y h.1 in ((h.0, r.0), r.1)
+
+-- what is true of each star is said of stars that are lent, and back
+pub each_shown : (P : VertexStar → Type 0) (near : List KeptStar) → AllByRecursion (λ s. P s.star) near → AllByRecursion P (shown near)
+each_shown P [] h = tt
+each_shown P (s ∷ near) h = (h.0, each_shown P near h.1)
+
+pub each_kept : (P : VertexStar → Type 0) (near : List KeptStar) → AllByRecursion P (shown near) → AllByRecursion (λ s. P s.star) near
+each_kept P [] h = tt
+each_kept P (s ∷ near) h = (h.0, each_kept P near h.1)
+
+-- what is true of each star whose vertex is there
+pub each_there : {P Q : KeptStar → Type 0} (near : List KeptStar) → AllByRecursion P near → ((s : KeptStar) → has (vertices (shown near)) s.star.vertex ≡ true → P s → Q s) → AllByRecursion Q near
+each_there [] h f = tt
+each_there (s ∷ near) h f = (
+  f s (or_left (nat_eq s.star.vertex s.star.vertex) (has (vertices (shown near)) s.star.vertex) (nat_eq_same s.star.vertex)) h.0,
+  each_there near h.1 (λ t u. f t (or_right (nat_eq s.star.vertex t.star.vertex) (has (vertices (shown near)) t.star.vertex) u)),
+)
+
+pub each_star_there : {P Q : VertexStar → Type 0} (near : List VertexStar) → AllByRecursion P near → ((s : VertexStar) → has (vertices near) s.vertex ≡ true → P s → Q s) → AllByRecursion Q near
+each_star_there [] h f = tt
+each_star_there (s ∷ near) h f = (
+  f s (or_left (nat_eq s.vertex s.vertex) (has (vertices near) s.vertex) (nat_eq_same s.vertex)) h.0,
+  each_star_there near h.1 (λ t u. f t (or_right (nat_eq s.vertex t.vertex) (has (vertices near) t.vertex) u)),
+)
+
+-- ---- stars of a complex
+
+pub is_star : (k : ComplexView) (s : VertexStar) → IsStarOf k s → s ≡ star_in k s.vertex
+is_star k s h = λ i. record { vertex = s.vertex; dim = h.dim i; rows = h.rows i }
+
+pub star_is : (k : ComplexView) (p : ℕ) (s : VertexStar) → s ≡ star_in k p → IsStarOf k s
+star_is k p s e = subst (IsStarOf k) (sym e) record { dim = refl; rows = refl }
+
+-- ---- rooms
+
+-- stars of a complex that have room for their rows
+pub room_counts : (k : ComplexView) (near : List KeptStar) (stars : List VertexStar) → vertices stars ≡ vertices (shown near) → AllByRecursion (IsStarOf k) stars → HaveRoom k near → EachAtMost (counts stars) (rooms near)
+room_counts k [] [] vs of room = λ i. omega arith
+room_counts k (s ∷ near) [] vs of room = absurd (let e = ap length vs in omega (arith, e))
+room_counts k [] (t ∷ stars) vs of room = absurd (let e = ap length vs in omega (arith, e))
+room_counts k (s ∷ near) (t ∷ stars) vs of room =
+    let v : t.vertex ≡ s.star.vertex = ap (λ (xs : List ℕ). get_or xs 0 0) vs in
+    let rest : vertices stars ≡ vertices (shown near) = ap (λ (xs : List ℕ). drop 1 xs) vs in
+    let here : length t.rows ≤ s.room = omega (arith, ap length of.0.rows, ap (λ (n : ℕ). length (star k.facets n)) v, room.0) in
+    λ i. by i here (room_counts k near stars rest of.1 room.1)
+  where
+    by : (i : ℕ) → length t.rows ≤ s.room → EachAtMost (counts stars) (rooms near) → get_or (counts (t ∷ stars)) i 0 ≤ get_or (rooms (s ∷ near)) i 0
+    by zero here rest = here
+    by (suc i) here rest = rest i
+
+pub fits_room : (k : ComplexView) (near : List KeptStar) → AllByRecursion (IsStarOf k) (shown near) → AllByRecursion FitsRoom near → HaveRoom k near
+fits_room k [] of few = tt
+fits_room k (s ∷ near) of few = ((let e = ap length of.0.rows in let h = few.0 in omega (arith, h, e)), fits_room k near of.1 few.1)
+
+-- no star of these lost room
+pub more_room : (k : ComplexView) (old new : List KeptStar) → vertices (shown new) ≡ vertices (shown old) → EachAtMost (rooms old) (rooms new) → HaveRoom k old → HaveRoom k new
+more_room k [] [] vs more room = tt
+more_room k (s ∷ old) [] vs more room = absurd (let e = ap length vs in omega (arith, e))
+more_room k [] (t ∷ new) vs more room = absurd (let e = ap length vs in omega (arith, e))
+more_room k (s ∷ old) (t ∷ new) vs more room =
+    let v : t.star.vertex ≡ s.star.vertex = ap (λ (xs : List ℕ). get_or xs 0 0) vs in (
+      (let m = more 0 in let e = ap (λ (n : ℕ). length (star k.facets n)) v in omega (arith, m, e, room.0)),
+      more_room k old new (ap (λ (xs : List ℕ). drop 1 xs) vs) (λ i. more (suc i)) room.1,
+    )
+
+-- ---- one star more
+
+-- a star is lent at the place among the others where its vertex parts them
+pub lends_at : (near new : List KeptStar) (at p : ℕ) (t : KeptStar) (s : VertexStar) → IsRising (vertices (shown near)) → 0 < p → has (vertices (shown near)) p ≡ false → at ≤ length near
+    → IsPartitionPoint (λ u. nat_lt u.star.vertex p ≡ true) (λ u. nat_lt u.star.vertex p ≡ false) near at → t.star ≡ s → s.vertex ≡ p → FitsRoom t → new ≡ insert near at t → Lends near new s
+lends_at near new at p t s r low fresh le parts is vertex fits now =
+    let none : KeptStar = record { star = record { vertex = 0; dim = 0; rows = [] }; room = 0 } in
+    let long : length (vertices (shown near)) ≡ length near = length-vertices (shown near) ∙ length-shown near in
+    let at_place : (j : ℕ) → j < length near → get_or (vertices (shown near)) j 0 ≡ (get_or near j none).star.vertex = λ j l.
+    vertex_at (shown near) j none.star (omega (arith, l, length-shown near)) ∙ ap (λ (u : VertexStar). u.vertex) (shown_at near j none none.star l) in
+    let below : (j : ℕ) → j < at → j < length (vertices (shown near)) → get_or (vertices (shown near)) j 0 < p = λ j l in_list.
+    let b : (get_or near j none).star.vertex < p = ltb-true (get_or near j none).star.vertex p (parts.0 j none (omega arith) l) in
+    let e = at_place j (omega (arith, in_list, long)) in omega (arith, b, e) in
+    let above : (j : ℕ) → at ≤ j → j < length (vertices (shown near)) → p < get_or (vertices (shown near)) j 0 = λ j l in_list.
+    let in_near : j < length near = omega (arith, in_list, long) in
+    let b : p ≤ (get_or near j none).star.vertex = ltb-false (get_or near j none).star.vertex p (parts.1 j none l in_near) in
+    let e = at_place j in_near in
+    let ne : get_or (vertices (shown near)) j 0 ≢ p = λ z. off (sym fresh ∙ (ap (has (vertices (shown near))) (sym z) ∙ has_place (vertices (shown near)) j in_list)) in
+    let differs : p ≢ get_or (vertices (shown near)) j 0 = λ z. ne (sym z) in
+    omega (arith, b, e, differs) in
+    record {
+      at = at;
+      kept = t;
+      star = is;
+      fits = subst (λ (u : VertexStar). length u.rows ≤ t.room) is fits;
+      now = now;
+      rising = subst IsRising (sym (ap (λ (l : List KeptStar). vertices (shown l)) now ∙ (vertices_inserted near at t ∙ ap (insert (vertices (shown near)) at) (ap (λ (u : VertexStar). u.vertex) is ∙ vertex))))
+          (rising_inserted 0 (vertices (shown near)) at p r low below above);
+    }
+
+-- what lies in one slot is one star
+pub one_home : (x y : VersionedStar) {p : ℕ} → some (Home x) ≡ some (Home y) → y.star.vertex ≡ p → x.star.vertex ≡ p
+one_home x y e v =
+    let h : Home x ≡ Home y = some-injective (Home x) (Home y) e in
+    let same : x ≡ y = cc in
+    ap (λ (z : VersionedStar). z.star.vertex) same ∙ v
+
+-- what is true of each star is true of one more
+pub each_lent : (P : KeptStar → Type 0) (old new : List KeptStar) (s : VertexStar) (l : Lends old new s) → AllByRecursion P old → P l.kept → AllByRecursion P new
+each_lent P old new s l h p = subst (AllByRecursion P) (sym l.now) (each_inserted P old l.at l.kept h p)

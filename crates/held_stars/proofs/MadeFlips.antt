@@ -1,46 +1,46 @@
--- Flips that are made on the stars that a worker holds.
-use Rattle.std.proofs.Common.{◌≡◌, ℕ, ◌+◌, ◌≤◌, Bool, true, false, cond, nat_eq, ◌||◌, List, [], ◌∷◌, ◌++◌, length, Result, Ok, Err, OnOk, OnErr, Some, sym, ◌∙◌, ap, refl, subst, arith}
+-- Flips that are made on the stars that are lent, and taken back.
+use Rattle.std.proofs.Common.{◌≡◌, ◌≢◌, ◌⊎◌, inl, inr, ⊎_elim, ℕ, ◌+◌, ◌<◌, ◌≤◌, Bool, true, false, ◌||◌, List, [], ◌∷◌, ◌++◌, length, take, drop, append_assoc, Result, Ok, Err, Some, sym, ◌∙◌, ap, refl, subst, arith}
 use Rattle.std.specs.List.{AllByRecursion}
+use Rattle.std.proofs.lemmas.List.{append-nil, length-map}
 use mathlib.Core.Option.{some}
-use Rattle.complex_core.specs.Labels.{IsRising, IsFace, has, union}
+use Rattle.complex_core.specs.Labels.{IsRising, has, union}
 use Rattle.complex_core.specs.Complexes.{ComplexView, IsComplex}
-use Rattle.complex_core.proofs.Laws.{has-union, holds_each, length_union_le, or_left, or_right, or_assoc}
+use Rattle.complex_core.proofs.Laws.{has-union, holds_each, holds_has, length_union_le, or_left, or_right, or_assoc}
+use Rattle.complex_core.proofs.Booleans.{or_none}
+use Rattle.complex_core.proofs.Members.{each_push}
 use Rattle.flip_rules.specs.Flips.{broken_rule, flipped, replay, OfFaces, Shaped}
 use Rattle.flip_rules.specs.Journals.{flip_touches}
 use Rattle.flip_rules.specs.declared.flip.Flip.{Flip}
-use Rattle.flip_rules.specs.declared.flip.FlipFault.{FlipFault}
-use Rattle.flip_rules.proofs.Replays.{replay_then, replay_dim, complex_replayed}
+use Rattle.flip_rules.proofs.Back.{undoes}
+use Rattle.flip_rules.proofs.Replays.{replay_then, replay_split, first_flip, replay_dim, complex_replayed}
 use Rattle.star_laws.specs.Stars.{flips_touch, LabelsPass}
-use Rattle.star_laws.proofs.FlipStars.{other_star}
 use Rattle.star_laws.proofs.ReplayStars.{others_replay}
-use Rattle.stars.specs.StarViews.{VertexStar, vertices, IsStarOf, AreStarsOf, HasLabels}
-use Rattle.stars.specs.FlipsHere.{stars_flipped}
+use Rattle.stars.specs.StarViews.{VertexStar, KeptStar, vertices, shown, rooms, counts, EachAtMost, IsStarOf, AreStarsOf, HasLabels}
+use Rattle.stars.specs.FlipsHere.{star_flipped, stars_flipped}
+use Rattle.stars.proofs.Finding.{length-shown}
+use Rattle.stars.proofs.Shown.{refilled}
+use Rattle.stars.proofs.Flipping.{same_vertices, stars_of_flipped}
+use Rattle.board_rule.specs.Homes.{VersionedStar}
 use Rattle.board_rule.specs.Items.{item, has_item}
-use Rattle.board_rule.specs.Plays.{Sees}
 use Rattle.board_rule.specs.Views.{star_in}
-use Rattle.board_rule.specs.declared.data.VersionedStar.{VersionedStar}
-use Rattle.board_rule.specs.declared.view.PassView.{PassView}
-use Rattle.board_rule.proofs.Items.{off, some_of}
-use Rattle.vertex_claims.specs.Passes.{know}
+use Rattle.board_rule.proofs.Items.{some_of}
+use Rattle.vertex_claims.specs.Passes.{know, slot}
 use Rattle.vertex_claims.specs.declared.pass.Pass.{Pass}
-use Rattle.held_stars.specs.Holding.{Lends, Hosts, IsKnown, Copies, Made, Restorable, with_copies}
-use Rattle.held_stars.specs.declared.hold.Hold.{Hold}
-use Rattle.held_stars.proofs.LentStars.{is_star, vertices_snoc}
-use Rattle.complex_core.proofs.Booleans.{left_off, right_off, or_none}
-use Rattle.complex_core.proofs.Members.{each_push, has_snoc}
-use Rattle.stars.proofs.Flipping.{same_vertices}
+use Rattle.held_stars.specs.Holding.{AreOf, FitsRoom, HaveRoom, IsMade, Settles}
+use Rattle.held_stars.proofs.LentStars.{each_front, each_star_there, is_star, room_counts, fits_room, more_room}
 
--- ---- booleans
+-- ---- labels of flips
 
 by_or : (a b c : Bool) → (a ≡ true → c ≡ true) → (b ≡ true → c ≡ true) → (a || b) ≡ true → c ≡ true
 by_or true b c f g h = f refl
 by_or false b c f g h = g h
 
--- ---- labels of flips
+pub touch_both : (q : ℕ) (fs gs : List Flip) → flips_touch q (fs ++ gs) ≡ (flips_touch q fs || flips_touch q gs)
+touch_both q [] gs = refl
+touch_both q (f ∷ fs) gs = ap (λ (b : Bool). flip_touches q f || b) (touch_both q fs gs) ∙ or_assoc (flip_touches q f) (flips_touch q fs) (flips_touch q gs)
 
 pub touch_snoc : (q : ℕ) (fs : List Flip) (f : Flip) → flips_touch q (fs ++ f ∷ []) ≡ (flips_touch q fs || flip_touches q f)
-touch_snoc q [] f = or_none (flip_touches q f)
-touch_snoc q (g ∷ fs) f = ap (λ (b : Bool). flip_touches q g || b) (touch_snoc q fs f) ∙ or_assoc (flip_touches q g) (flips_touch q fs) (flip_touches q f)
+touch_snoc q fs f = touch_both q fs (f ∷ []) ∙ ap (λ (b : Bool). flips_touch q fs || b) (or_none (flip_touches q f))
 
 pub touch_one : (q : ℕ) (f : Flip) → flip_touches q f ≡ true → flips_touch q (f ∷ []) ≡ true
 touch_one q f h = or_left (flip_touches q f) false h
@@ -52,166 +52,193 @@ union_touches labels f q is = ap (λ (l : List ℕ). has l q) is ∙ has-union f
 pub union_few : (d : ℕ) (f : Flip) → d ≤ 6 → Shaped d f.a f.b → length (union f.a f.b) ≤ 8
 union_few d f l s = omega (arith, l, s.sizes, length_union_le f.a f.b)
 
-pub labels_held : (items : List (ℕ × VersionedStar)) (labels : List ℕ) (f : Flip) → labels ≡ union f.a f.b → LabelsPass (has_item items) (f ∷ []) → (q : ℕ) → has labels q ≡ true → has_item items q ≡ true
-labels_held items labels f is pass q h = pass q (touch_one q f (sym (union_touches labels f q is) ∙ h))
+-- the stars of all labels of a flip are lent where its labels are held, and only there
+pub labels_lent : (items : List (ℕ × VersionedStar)) (stars : List VertexStar) (f : Flip) → AreOf items stars → LabelsPass (has_item items) (f ∷ []) → HasLabels stars f
+labels_lent items stars f held pass = record {
+  first = holds_each (vertices stars) f.a (λ z h. held.each z ∙ pass z (touch_one z f (or_left (has f.a z) (has f.b z) h)));
+  second = holds_each (vertices stars) f.b (λ z h. held.each z ∙ pass z (touch_one z f (or_right (has f.a z) (has f.b z) h)));
+}
 
-pub near_has_labels : (lent : List VertexStar) (labels : List ℕ) (f : Flip) → vertices lent ≡ labels → labels ≡ union f.a f.b → HasLabels lent f
-near_has_labels lent labels f vs is =
-    let all : (q : ℕ) → has (vertices lent) q ≡ flip_touches q f = λ q. ap (λ (l : List ℕ). has l q) vs ∙ union_touches labels f q is in
-    record {
-      first = holds_each (vertices lent) f.a (λ z h. all z ∙ or_left (has f.a z) (has f.b z) h);
-      second = holds_each (vertices lent) f.b (λ z h. all z ∙ or_right (has f.a z) (has f.b z) h);
-    }
+label_held : (items : List (ℕ × VersionedStar)) (stars : List VertexStar) (f : Flip) → AreOf items stars → HasLabels stars f → (q : ℕ) → flip_touches q f ≡ true → has_item items q ≡ true
+label_held items stars f held labels q t =
+    by_or (has f.a q) (has f.b q) (has_item items q) (λ h. sym (held.each q) ∙ holds_has (vertices stars) f.a q labels.first h) (λ h. sym (held.each q) ∙ holds_has (vertices stars) f.b q labels.second h) t
 
 -- ---- the complex now
 
-pub complex_now : (pass : Pass) (h : Hold) (now : ComplexView) → Sees (know pass) → Made pass h now → IsComplex now
-complex_now pass h now sees m = complex_replayed (know pass).seen now h.flips.items sees.complex m.faces m.replays
-
-pub near_stars_of : (pass : Pass) (h : Hold) (now : ComplexView) (lent : List VertexStar) (labels : List ℕ) → Sees (know pass) → Made pass h now → vertices lent ≡ labels → IsFace labels → AllByRecursion (IsStarOf now) lent → AreStarsOf now lent
-near_stars_of pass h now lent labels sees m vs face each = record {
-  complex = complex_now pass h now sees m;
-  rising = subst IsRising (sym vs) face.rising;
-  each = each;
+pub are_stars : (pass : Pass) (flips : List Flip) (lent : List KeptStar) (now : ComplexView) → IsMade pass flips lent now → AreStarsOf now (shown lent)
+are_stars pass flips lent now m = record {
+  complex = complex_replayed (know pass).seen now flips pass.sees.complex m.faces m.replays;
+  rising = m.held.rising;
+  each = m.stars;
 }
+
+-- the same of the slice that shows them
+pub near_stars : (pass : Pass) (flips : List Flip) (lent near : List KeptStar) (now : ComplexView) → IsMade pass flips lent now → near ≡ lent → AreStarsOf now (shown near)
+near_stars pass flips lent near now m is = subst (λ (l : List KeptStar). AreStarsOf now (shown l)) (sym is) (are_stars pass flips lent now m)
 
 -- a star of a label that no flip has is that of the complex before
 pub untouched : (k m : ComplexView) (flips : List Flip) (q : ℕ) → IsComplex k → replay k flips ≡ Some m → flips_touch q flips ≡ false → star_in m q ≡ star_in k q
 untouched k m flips q c e u = λ i. record { vertex = q; dim = replay_dim k m flips e i; rows = others_replay k m flips q c.rising e u i }
 
-pub stays : (k : ComplexView) (f : Flip) (q : ℕ) → IsComplex k → broken_rule k f.a f.b ≡ Ok tt → flip_touches q f ≡ false → star_in (flipped k f.a f.b) q ≡ star_in k q
-stays k f q c ok u = λ i. record { vertex = q; dim = k.dim; rows = other_star k f.a f.b q c.rising ok (left_off (has f.a q) (has f.b q) u) (right_off (has f.a q) (has f.b q) u) i }
+-- the same stars where a pass knows the same of them
+pub made_moved : (a b : Pass) (flips : List Flip) (lent : List KeptStar) (now : ComplexView) → IsMade a flips lent now → (know b).seen ≡ (know a).seen → (know b).items ≡ (know a).items → (know b).has_journal ≡ false → ((q : ℕ) → q ≢ 0 → slot b q ≡ slot a q) → IsMade b flips lent now
+made_moved a b flips lent now m seen items free slots = record {
+  replays = ap (λ (k : ComplexView). replay k flips) seen ∙ m.replays;
+  faces = m.faces;
+  labels = λ q t. ap (λ (l : List (ℕ × VersionedStar)). has_item l q) items ∙ m.labels q t;
+  held = subst (λ (l : List (ℕ × VersionedStar)). AreOf l (shown lent)) (sym items) m.held;
+  stars = m.stars;
+  room = λ front rest k e r. m.room front rest k e (ap (λ (j : ComplexView). replay j front) (sym seen) ∙ r);
+  slots = λ q x at.
+      let old : item (know a).items q ≡ some x = ap (λ (l : List (ℕ × VersionedStar)). item l q) (sym items) ∙ at in
+      let low : 0 < q = (a.sees.stars q x old).0 in
+      let s = m.slots q x old in
+      (s.0, s.1, slots q (λ e. absurd (omega (arith, low, e))) ∙ s.2, s.3);
+  free = free;
+}
 
-pub lends_flipped : (pass : Pass) (now : ComplexView) (f : Flip) (labels after : List ℕ) → IsComplex now → labels ≡ union f.a f.b → after ≡ labels → broken_rule now f.a f.b ≡ Ok tt → Lends pass now labels → Lends pass (flipped now f.a f.b) after
-lends_flipped pass now f labels after c is same ok lends q x at =
-    let r = lends q x at in
-    (r.0, r.1, λ u. let u' : has labels q ≡ false = ap (λ (l : List ℕ). has l q) (sym same) ∙ u in r.2 u' ∙ sym (stays now f q c ok (sym (union_touches labels f q is) ∙ u')))
+-- ---- one more flip
 
--- the stars may go back to their slots, whether the flip was made or not
-pub lent_after : (pass : Pass) (now : ComplexView) (f : Flip) (labels : List ℕ) (lent after : List VertexStar) (r : Result (Unit {0}) FlipFault) → AreStarsOf now lent → labels ≡ union f.a f.b → vertices lent ≡ labels → Lends pass now labels
-    → OnOk r (broken_rule now f.a f.b ≡ Ok tt) → OnOk r (AreStarsOf (flipped now f.a f.b) after) → OnOk r (after ≡ stars_flipped lent f.a f.b) → OnErr r (after ≡ lent)
-    → (k : ComplexView) × Lends pass k (vertices after) × AllByRecursion (IsStarOf k) after
-lent_after pass now f labels lent after (Ok u) are is vs lends ok stars last same =
-    (flipped now f.a f.b, lends_flipped pass now f labels (vertices after) are.complex is (ap vertices last ∙ (same_vertices lent f.a f.b ∙ vs)) ok lends, stars.each)
-lent_after pass now f labels lent after (Err e) are is vs lends ok stars last same =
-    (now, subst (λ (l : List ℕ). Lends pass now l) (sym (ap vertices same ∙ vs)) lends, subst (AllByRecursion (IsStarOf now)) (sym same) are.each)
-
-pub vertices_after : (f : Flip) (lent after : List VertexStar) (r : Result (Unit {0}) FlipFault) → OnOk r (after ≡ stars_flipped lent f.a f.b) → OnErr r (after ≡ lent) → vertices after ≡ vertices lent
-vertices_after f lent after (Ok u) last same = ap vertices last ∙ same_vertices lent f.a f.b
-vertices_after f lent after (Err e) last same = ap vertices same
-
--- ---- copies
-
-has_copied_one : (cs : List VertexStar) (n : VertexStar) (q : ℕ) (b : Bool) → has (vertices cs) n.vertex ≡ b → has (vertices (cond b cs (cs ++ n ∷ []))) q ≡ (has (vertices cs) q || nat_eq n.vertex q)
-has_copied_one cs n q true h = sym (absorb (has (vertices cs) q) (nat_eq n.vertex q) (λ e. ap (has (vertices cs)) (sym (is n.vertex q e)) ∙ h))
+-- flips of which one more is the last begin as they did, or are all of them
+split_last : (fs : List Flip) (f : Flip) (front rest : List Flip) → fs ++ f ∷ [] ≡ front ++ rest → (rest ≡ []) ⊎ ((more : List Flip) × (fs ≡ front ++ more))
+split_last fs f [] rest e = inr (fs, refl)
+split_last [] f (g ∷ front) rest e = inl (none front rest (ap tail e))
   where
-    is : (x y : ℕ) → nat_eq x y ≡ true → x ≡ y
-    is = Rattle.complex_core.proofs.Laws.nat_eq_is
+    tail : List Flip → List Flip
+    tail [] = []
+    tail (x ∷ xs) = xs
 
-    absorb : (a b : Bool) → (b ≡ true → a ≡ true) → (a || b) ≡ a
-    absorb true b f = refl
-    absorb false true f = sym (f refl)
-    absorb false false f = refl
-has_copied_one cs n q false h = ap (λ (vs : List ℕ). has vs q) (vertices_snoc cs n) ∙ has_snoc (vertices cs) n.vertex q
+    none : (front rest : List Flip) → [] ≡ front ++ rest → rest ≡ []
+    none [] rest e = sym e
+    none (x ∷ xs) rest e = cc
+split_last (h ∷ fs) f (g ∷ front) rest e =
+    let both : (h ≡ g) × (fs ++ f ∷ [] ≡ front ++ rest) = (cc, cc) in
+    ⊎_elim (λ (z : rest ≡ []). inl z) (λ (s : (more : List Flip) × (fs ≡ front ++ more)). inr (s.0, (λ i. both.0 i ∷ s.1 i))) (split_last fs f front rest both.1)
 
-pub has_copied : (cs ns : List VertexStar) (q : ℕ) → has (vertices (with_copies cs ns)) q ≡ (has (vertices cs) q || has (vertices ns) q)
-has_copied cs [] q = sym (or_none (has (vertices cs) q))
-has_copied cs (n ∷ ns) q =
-    has_copied (cond (has (vertices cs) n.vertex) cs (cs ++ n ∷ [])) ns q ∙ (ap (λ (b : Bool). b || has (vertices ns) q) (has_copied_one cs n q (has (vertices cs) n.vertex) refl) ∙ sym (or_assoc (has (vertices cs) q) (nat_eq n.vertex q) (has (vertices ns) q)))
-
-each_map : {P Q : VertexStar → Type 0} (f : (n : VertexStar) → P n → Q n) (ns : List VertexStar) → AllByRecursion P ns → AllByRecursion Q ns
-each_map f [] h = tt
-each_map f (n ∷ ns) h = (f n h.0, each_map f ns h.1)
-
-each_left : (P : VertexStar → Type 0) (xs ys : List VertexStar) → AllByRecursion P (xs ++ ys) → AllByRecursion P xs
-each_left P [] ys h = tt
-each_left P (x ∷ xs) ys h = (h.0, each_left P xs ys h.1)
-
-each_held : (items : List (ℕ × VersionedStar)) (k : ComplexView) (ns : List VertexStar) → AllByRecursion (IsStarOf k) ns → ((q : ℕ) → has (vertices ns) q ≡ true → has_item items q ≡ true) → AllByRecursion (λ n. IsStarOf k n × (has_item items n.vertex ≡ true)) ns
-each_held items k [] h held = tt
-each_held items k (n ∷ ns) h held = (
-  (h.0, held n.vertex (or_left (nat_eq n.vertex n.vertex) (has (vertices ns) n.vertex) (Rattle.complex_core.proofs.Laws.nat_eq_same n.vertex))),
-  each_held items k ns h.1 (λ q t. held q (or_right (nat_eq n.vertex q) (has (vertices ns) q) t)),
-)
-
-known_added : (items : List (ℕ × VersionedStar)) (cs ns : List VertexStar) → AllByRecursion (IsKnown items) cs → AllByRecursion (λ n. has (vertices cs) n.vertex ≡ false → IsKnown items n) ns → AllByRecursion (IsKnown items) (with_copies cs ns)
-known_added items cs [] h g = h
-known_added items cs (n ∷ ns) h g = known_added items (cond (has (vertices cs) n.vertex) cs (cs ++ n ∷ [])) ns (one (has (vertices cs) n.vertex) refl)
-    (each_map (λ m k u. k (left_off (has (vertices cs) m.vertex) (nat_eq n.vertex m.vertex) (sym (has_copied_one cs n m.vertex (has (vertices cs) n.vertex) refl) ∙ u))) ns g.1)
-  where
-    one : (b : Bool) → has (vertices cs) n.vertex ≡ b → AllByRecursion (IsKnown items) (cond b cs (cs ++ n ∷ []))
-    one true e = h
-    one false e = each_push (IsKnown items) cs n h (g.0 e)
-
--- a star that was held and has no copy is as it is known
-pub known_star : (pass : Pass) (h : Hold) (now : ComplexView) → Sees (know pass) → Made pass h now → (q : ℕ) (x : VersionedStar) → item (know pass).items q ≡ some x → has (vertices h.copies.items) q ≡ false → star_in now q ≡ x.star
-known_star pass h now sees m q x at u = untouched (know pass).seen now h.flips.items q sees.complex m.replays (by (flips_touch q h.flips.items) refl) ∙ sym (sees.stars q x at).1
-  where
-    by : (b : Bool) → flips_touch q h.flips.items ≡ b → flips_touch q h.flips.items ≡ false
-    by true e = off (sym u ∙ m.copied q e)
-    by false e = e
-
--- copies of such stars are known
-pub known_copies : (pass : Pass) (h : Hold) (now : ComplexView) (lent : List VertexStar) → Sees (know pass) → Made pass h now → AllByRecursion (IsStarOf now) lent → ((q : ℕ) → has (vertices lent) q ≡ true → has_item (know pass).items q ≡ true)
-    → AllByRecursion (IsKnown (know pass).items) (with_copies h.copies.items lent)
-known_copies pass h now lent sees m each held =
-    known_added (know pass).items h.copies.items lent m.known
-    (each_map (λ n e u. let x = some_of (know pass).items n.vertex e.1 in (x.0, x.1, is_star now n e.0 ∙ known_star pass h now sees m n.vertex x.0 x.1 u)) lent (each_held (know pass).items now lent each held))
-
--- ---- what holds afterwards
-
-pub made_flip : (a b : Pass) (h n : Hold) (now : ComplexView) (f : Flip) (labels : List ℕ) (lent : List VertexStar) → Sees (know a) → Made a h now → know b ≡ know a → OfFaces f → broken_rule now f.a f.b ≡ Ok tt → LabelsPass (has_item (know a).items) (f ∷ [])
-    → labels ≡ union f.a f.b → vertices lent ≡ labels → AllByRecursion (IsStarOf now) lent
-    → n.flips.items ≡ h.flips.items ++ f ∷ [] → n.places.items ≡ h.places.items → n.copies.items ≡ with_copies h.copies.items lent → n.lent.items ≡ [] → Hosts b (flipped now f.a f.b) → Made b n (flipped now f.a f.b)
-made_flip a b h n now f labels lent sees m same faces ok pass is vs each flips places copies none_near hosts =
-    let touches : (q : ℕ) → flips_touch q n.flips.items ≡ (flips_touch q h.flips.items || flip_touches q f) = λ q. ap (flips_touch q) flips ∙ touch_snoc q h.flips.items f in
-    let near_touches : (q : ℕ) → has (vertices lent) q ≡ flip_touches q f = λ q. ap (λ (l : List ℕ). has l q) vs ∙ union_touches labels f q is in
+pub made : (pass : Pass) (flips after : List Flip) (old new : List KeptStar) (now : ComplexView) (f : Flip) → IsMade pass flips old now → HasLabels (shown old) f → OfFaces f → broken_rule now f.a f.b ≡ Ok tt → shown new ≡ stars_flipped (shown old) f.a f.b
+    → AreStarsOf (flipped now f.a f.b) (shown new) → EachAtMost (rooms old) (rooms new) → AllByRecursion FitsRoom new → after ≡ flips ++ f ∷ [] → IsMade pass after new (flipped now f.a f.b)
+made pass flips after old new now f m labels faces ok is are more fits then =
+    let end = flipped now f.a f.b in
+    let vs : vertices (shown new) ≡ vertices (shown old) = ap vertices is ∙ same_vertices (shown old) f.a f.b in
+    let here : HaveRoom end new = fits_room end new are.each fits in
+    let replays : replay (know pass).seen after ≡ Some end = ap (replay (know pass).seen) then ∙ replay_then (know pass).seen now flips f m.replays ok in
     record {
-      replays = ap (λ (v : PassView). replay v.seen n.flips.items) same ∙ (ap (replay (know a).seen) flips ∙ replay_then (know a).seen now h.flips.items f m.replays ok);
-      faces = subst (AllByRecursion OfFaces) (sym flips) (each_push OfFaces h.flips.items f m.faces faces);
-      labels = λ q t. ap (λ (v : PassView). has_item v.items q) same ∙ by_or (flips_touch q h.flips.items) (flip_touches q f) (has_item (know a).items q) (m.labels q) (λ e. pass q (touch_one q f e)) (sym (touches q) ∙ t);
-      places = λ q t. ap (λ (ps : List ℕ). has ps q) places ∙ m.places q (ap (λ (v : PassView). has_item v.items q) (sym same) ∙ t);
-      copied = λ q t. ap (λ (cs : List VertexStar). has (vertices cs) q) copies ∙ (has_copied h.copies.items lent q ∙ by_or (flips_touch q h.flips.items) (flip_touches q f) (has (vertices h.copies.items) q || has (vertices lent) q)
-          (λ e. or_left (has (vertices h.copies.items) q) (has (vertices lent) q) (m.copied q e)) (λ e. or_right (has (vertices h.copies.items) q) (has (vertices lent) q) (near_touches q ∙ e)) (sym (touches q) ∙ t));
-      known = subst (λ (v : PassView). AllByRecursion (IsKnown v.items) n.copies.items) (sym same) (subst (AllByRecursion (IsKnown (know a).items)) (sym copies) (known_copies a h now lent sees m each (λ q t. pass q (touch_one q f (sym (near_touches q) ∙ t)))));
-      lent = none_near;
-      hosts = hosts;
-      free = ap (λ (v : PassView). v.has_journal) same ∙ m.free;
+      replays = replays;
+      faces = subst (AllByRecursion OfFaces) (sym then) (each_push OfFaces flips f m.faces faces);
+      labels = λ q t. by_or (flips_touch q flips) (flip_touches q f) (has_item (know pass).items q) (m.labels q) (label_held (know pass).items (shown old) f m.held labels q) (sym (ap (flips_touch q) then ∙ touch_snoc q flips f) ∙ t);
+      held = record { rising = are.rising; each = λ q. ap (λ (l : List ℕ). has l q) vs ∙ m.held.each q };
+      stars = are.each;
+      room = λ front rest k e r. ⊎_elim
+          (λ (z : rest ≡ []).
+          let all : after ≡ front = e ∙ (ap (λ (l : List Flip). front ++ l) z ∙ append-nil front) in
+          let same : Some k ≡ Some end = sym r ∙ (ap (replay (know pass).seen) (sym all) ∙ replays) in
+          let last : end ≡ k = cc in
+          subst (λ (j : ComplexView). HaveRoom j new) last here)
+          (λ (s : (rest : List Flip) × (flips ≡ front ++ rest)). more_room k old new vs more (m.room front s.0 k s.1 r))
+          (split_last flips f front rest (sym then ∙ e));
+      slots = m.slots;
+      free = m.free;
     }
 
--- whatever flips were made, the stars as they came are at home or have copies
-pub restorable : (a b : Pass) (h n : Hold) (now : ComplexView) (lent : List VertexStar) → Sees (know a) → Made a h now → know b ≡ know a → AllByRecursion (IsStarOf now) lent → ((q : ℕ) → has (vertices lent) q ≡ true → has_item (know a).items q ≡ true)
-    → Copies h.copies.items lent n.copies.items → n.places.items ≡ h.places.items → Hosts b now → Restorable b n
-restorable a b h n now lent sees m same each held copies places hosts =
-    let whole = copies.whole in
-    let each_front : AllByRecursion (IsStarOf now) copies.front = each_left (IsStarOf now) copies.front copies.rest (subst (AllByRecursion (IsStarOf now)) whole each) in
-    let held_front : (q : ℕ) → has (vertices copies.front) q ≡ true → has_item (know a).items q ≡ true = λ q t. held q (ap (λ (ns : List VertexStar). has (vertices ns) q) whole ∙ has_left copies.front copies.rest q t) in
-    record {
-      slots = λ q x at. (
-        star_in now q,
-        hosts q x at,
-        λ u. known_star a h now sees m q x (ap (λ (v : PassView). item v.items q) (sym same) ∙ at)
-            (left_off (has (vertices h.copies.items) q) (has (vertices copies.front) q) (sym (has_copied h.copies.items copies.front q) ∙ (ap (λ (cs : List VertexStar). has (vertices cs) q) (sym copies.added) ∙ u))),
-      );
-      known = subst (λ (v : PassView). AllByRecursion (IsKnown v.items) n.copies.items) (sym same) (subst (AllByRecursion (IsKnown (know a).items)) (sym copies.added) (known_copies a h now copies.front sees m each_front held_front));
-      places = λ q t. ap (λ (ps : List ℕ). has ps q) places ∙ m.places q (ap (λ (v : PassView). has_item v.items q) (sym same) ∙ t);
-      free = ap (λ (v : PassView). v.has_journal) same ∙ m.free;
+-- the stars after a flip, as they stand in their vector
+pub flip_made : (pass : Pass) (flips after : List Flip) (items near next known : List KeptStar) (len : ℕ) (now : ComplexView) (f : Flip) → IsMade pass flips items now → HasLabels (shown items) f → OfFaces f → broken_rule now f.a f.b ≡ Ok tt → near ≡ items
+    → shown next ≡ stars_flipped (shown near) f.a f.b → AreStarsOf (flipped now f.a f.b) (shown next) → EachAtMost (rooms near) (rooms next) → len ≡ length items → AllByRecursion FitsRoom known → known ≡ take len (next ++ drop (length next) items) → after ≡ flips ++ f ∷ []
+    → IsMade pass after (take len (next ++ drop (length next) items)) (flipped now f.a f.b)
+flip_made pass flips after items near next known len now f m labels faces ok is flips_so are more long fits told then =
+    let made_so : shown next ≡ stars_flipped (shown items) f.a f.b = flips_so ∙ ap (λ (l : List KeptStar). stars_flipped (shown l) f.a f.b) is in
+    let count : length next ≡ length items = sym (length-shown next) ∙ (ap length made_so ∙ (length-map (shown items) (star_flipped f.a f.b) ∙ length-shown items)) in
+    let whole : take len (next ++ drop (length next) items) ≡ next = refilled len items next long count in
+    subst (λ (l : List KeptStar). IsMade pass after l (flipped now f.a f.b)) (sym whole)
+    (made pass flips after items next now f m labels faces ok made_so are (subst (λ (l : List KeptStar). EachAtMost (rooms l) (rooms next)) is more) (subst (AllByRecursion FitsRoom) (told ∙ whole) fits) then)
+
+-- where no flip was made some stars may have more room
+pub none_made : (pass : Pass) (flips : List Flip) (items near next : List KeptStar) (len : ℕ) (now : ComplexView) → IsMade pass flips items now → near ≡ items → shown next ≡ shown near → EachAtMost (rooms near) (rooms next) → len ≡ length items → IsMade pass flips (take len (next ++ drop (length next) items)) now
+none_made pass flips items near next len now m is stays more long =
+    let same : shown next ≡ shown items = stays ∙ ap shown is in
+    let count : length next ≡ length items = sym (length-shown next) ∙ (ap length same ∙ length-shown items) in
+    subst (λ (l : List KeptStar). IsMade pass flips l now) (sym (refilled len items next long count)) record {
+      replays = m.replays;
+      faces = m.faces;
+      labels = m.labels;
+      held = subst (AreOf (know pass).items) (sym same) m.held;
+      stars = subst (AllByRecursion (IsStarOf now)) (sym same) m.stars;
+      room = λ front rest k e r. more_room k items next (ap vertices same) (subst (λ (l : List KeptStar). EachAtMost (rooms l) (rooms next)) is more) (m.room front rest k e r);
+      slots = m.slots;
+      free = m.free;
     }
-  where
-    has_left : (xs ys : List VertexStar) (q : ℕ) → has (vertices xs) q ≡ true → has (vertices (xs ++ ys)) q ≡ true
-    has_left [] ys q t = off t
-    has_left (x ∷ xs) ys q t = by_or (nat_eq x.vertex q) (has (vertices xs) q) (nat_eq x.vertex q || has (vertices (xs ++ ys)) q) (λ e. or_left (nat_eq x.vertex q) (has (vertices (xs ++ ys)) q) e) (λ e. or_right (nat_eq x.vertex q) (has (vertices (xs ++ ys)) q) (has_left xs ys q e)) t
 
--- the same where nothing was added
-pub made_restorable : (a b : Pass) (h : Hold) (now : ComplexView) → Sees (know a) → Made a h now → know b ≡ know a → Hosts b now → Restorable b h
-made_restorable a b h now sees m same hosts = restorable a b h h now [] sees m same tt (λ q t. off t) record { front = []; rest = []; whole = refl; added = refl } refl hosts
+-- ---- one flip less
 
-pub copies_few : (cs ns : List VertexStar) → length (with_copies cs ns) ≤ length cs + length ns
-copies_few cs [] = omega arith
-copies_few cs (n ∷ ns) =
-    let one = few (has (vertices cs) n.vertex) in
-    omega (arith, copies_few (cond (has (vertices cs) n.vertex) cs (cs ++ n ∷ [])) ns, one)
-  where
-    few : (b : Bool) → length (cond b cs (cs ++ n ∷ [])) ≤ length cs + 1
-    few true = omega arith
-    few false = simp Rattle.std.proofs.lemmas.List.length-append (omega arith)
+-- how things stood before the last flip, and that it can be taken back
+pub record Before (pass : Pass) (front : List Flip) (f : Flip) (lent : List KeptStar) (now : ComplexView) : Type 0 where
+  pub complex : ComplexView
+  pub replays : replay (know pass).seen front ≡ Some complex
+  pub legal : broken_rule now f.b f.a ≡ Ok tt
+  pub faces : AllByRecursion OfFaces front
+  pub stars : AllByRecursion (IsStarOf complex) (stars_flipped (shown lent) f.b f.a)
+  pub labels : HasLabels (shown lent) f
+  pub room : EachAtMost (counts (stars_flipped (shown lent) f.b f.a)) (rooms lent)
+
+pub before : (pass : Pass) (flips front : List Flip) (f : Flip) (lent : List KeptStar) (now : ComplexView) → IsMade pass flips lent now → flips ≡ front ++ f ∷ [] → Before pass front f lent now
+before pass flips front f lent now m is =
+    let seen = (know pass).seen in
+    let faces : AllByRecursion OfFaces front × OfFaces f = each_front OfFaces front f (subst (AllByRecursion OfFaces) is m.faces) in
+    let s : (k : ComplexView) × (replay seen front ≡ Some k) × (replay k (f ∷ []) ≡ Some now) = replay_split seen now front (f ∷ []) (ap (replay seen) (sym is) ∙ m.replays) in
+    let k = s.0 in
+    let one : (broken_rule k f.a f.b ≡ Ok tt) × (replay (flipped k f.a f.b) [] ≡ Some now) = first_flip k now f [] s.2 in
+    let same : Some (flipped k f.a f.b) ≡ Some now = one.1 in
+    let made : flipped k f.a f.b ≡ now = cc in
+    let back = undoes k f.a f.b (complex_replayed seen k front pass.sees.complex faces.0 s.1).rising one.0 in
+    let legal : broken_rule now f.b f.a ≡ Ok tt = subst (λ (j : ComplexView). broken_rule j f.b f.a ≡ Ok tt) made back.0 in
+    let leads : flipped now f.b f.a ≡ k = subst (λ (j : ComplexView). flipped j f.b f.a ≡ k) made back.1 in
+    let inverse : Flip = record { a = f.b; b = f.a } in
+    let each : AllByRecursion (IsStarOf k) (stars_flipped (shown lent) f.b f.a) = subst (λ (j : ComplexView). AllByRecursion (IsStarOf j) (stars_flipped (shown lent) f.b f.a)) leads
+    (stars_of_flipped now (shown lent) inverse (record { first = faces.1.second; second = faces.1.first }) legal (are_stars pass flips lent now m)).each in
+    record {
+      complex = k;
+      replays = s.1;
+      legal = legal;
+      faces = faces.0;
+      stars = each;
+      labels = labels_lent (know pass).items (shown lent) f m.held (λ q t. m.labels q (ap (flips_touch q) is ∙ (touch_both q front (f ∷ []) ∙ or_right (flips_touch q front) (flips_touch q (f ∷ [])) t)));
+      room = room_counts k lent (stars_flipped (shown lent) f.b f.a) (same_vertices (shown lent) f.b f.a) each (m.room front (f ∷ []) k is s.1);
+    }
+
+pub undone : (pass : Pass) (flips front : List Flip) (f : Flip) (old new : List KeptStar) (now : ComplexView) → IsMade pass flips old now → flips ≡ front ++ f ∷ [] → shown new ≡ stars_flipped (shown old) f.b f.a → EachAtMost (rooms old) (rooms new) → (k : ComplexView) × IsMade pass front new k
+undone pass flips front f old new now m is stars more =
+    let b : Before pass front f old now = before pass flips front f old now m is in
+    let vs : vertices (shown new) ≡ vertices (shown old) = ap vertices stars ∙ same_vertices (shown old) f.b f.a in (
+      b.complex,
+      record {
+        replays = b.replays;
+        faces = b.faces;
+        labels = λ q t. m.labels q (ap (flips_touch q) is ∙ (touch_both q front (f ∷ []) ∙ or_left (flips_touch q front) (flips_touch q (f ∷ [])) t));
+        held = record { rising = subst IsRising (sym vs) m.held.rising; each = λ q. ap (λ (l : List ℕ). has l q) vs ∙ m.held.each q };
+        stars = subst (AllByRecursion (IsStarOf b.complex)) (sym stars) b.stars;
+        room = λ begun rest k e r. more_room k old new vs more (m.room begun (rest ++ f ∷ []) k (is ∙ (ap (λ (l : List Flip). l ++ f ∷ []) e ∙ append_assoc begun rest (f ∷ []))) r);
+        slots = m.slots;
+        free = m.free;
+      },
+    )
+
+-- the stars then, as they stand in their vector
+pub flip_undone : (pass : Pass) (flips front : List Flip) (f : Flip) (items near next : List KeptStar) (len : ℕ) (now : ComplexView) → IsMade pass flips items now → flips ≡ front ++ f ∷ [] → near ≡ items → shown next ≡ stars_flipped (shown near) f.b f.a → EachAtMost (rooms near) (rooms next) → len ≡ length items
+    → (k : ComplexView) × IsMade pass front (take len (next ++ drop (length next) items)) k
+flip_undone pass flips front f items near next len now m last is stars more long =
+    let made_so : shown next ≡ stars_flipped (shown items) f.b f.a = stars ∙ ap (λ (l : List KeptStar). stars_flipped (shown l) f.b f.a) is in
+    let count : length next ≡ length items = sym (length-shown next) ∙ (ap length made_so ∙ (length-map (shown items) (star_flipped f.b f.a) ∙ length-shown items)) in
+    let u = undone pass flips front f items next now m last made_so (subst (λ (l : List KeptStar). EachAtMost (rooms l) (rooms next)) is more) in
+    (u.0, subst (λ (l : List KeptStar). IsMade pass front l u.0) (sym (refilled len items next long count)) u.1)
+
+-- without flips the stars are as they are known
+pub settled : (pass : Pass) (flips : List Flip) (lent : List KeptStar) (now : ComplexView) → IsMade pass flips lent now → flips ≡ [] → Settles pass [] (shown lent)
+settled pass flips lent now m none =
+    let same : Some (know pass).seen ≡ Some now = ap (replay (know pass).seen) (sym none) ∙ m.replays in
+    let start : (know pass).seen ≡ now = cc in
+    record {
+      held = m.held;
+      known = each_star_there (shown lent) m.stars (λ s there of.
+          let x = some_of (know pass).items s.vertex (sym (m.held.each s.vertex) ∙ there) in
+          (x.0, x.1, is_star now s of ∙ (ap (λ (k : ComplexView). star_in k s.vertex) (sym start) ∙ sym (pass.sees.stars s.vertex x.0 x.1).1)));
+      slots = m.slots;
+    }

@@ -1,19 +1,19 @@
 -- What a worker holds of a board, and what it remembers of it.
-use Rattle.std.specs.Prelude.{◌≡◌, ◌≢◌, ◌⊎◌, ℕ, ◌+◌, ◌<◌, ◌≤◌, true, false, cond, List, [], ◌∷◌, ◌++◌, length, take, slice_index, Some, vec_capacity, ⊤}
-use Rattle.std.specs.List.{AllByRecursion}
+use Rattle.std.specs.Prelude.{◌≡◌, ◌≢◌, ◌⊎◌, ℕ, ◌+◌, ◌<◌, ◌≤◌, true, false, cond, List, ◌∷◌, [], ◌++◌, length, take, slice_index, Some, vec_capacity, ⊤}
+use Rattle.std.specs.List.{AllByRecursion, insert}
 use mathlib.Core.Option.{some}
-use Rattle.complex_core.specs.Labels.{has}
+use Rattle.complex_core.specs.Labels.{IsRising, has}
 use Rattle.complex_core.specs.Complexes.{ComplexView}
 use Rattle.flip_rules.specs.Flips.{replay, OfFaces}
 use Rattle.flip_rules.specs.Entries.{JournalEntry}
 use Rattle.flip_rules.specs.declared.flip.Flip.{Flip}
-use Rattle.star_laws.specs.Stars.{flips_touch, LabelsPass}
-use Rattle.stars.specs.StarViews.{VertexStar, vertices}
+use Rattle.star_laws.specs.Stars.{star, flips_touch, LabelsPass}
+use Rattle.stars.specs.StarViews.{VertexStar, KeptStar, vertices, shown, IsStarOf}
 use Rattle.board_rule.specs.Items.{item, has_item}
 use Rattle.board_rule.specs.Plays.{IsRefused}
 use Rattle.board_rule.specs.Tries.{Try, Unrefused}
-use Rattle.board_rule.specs.Views.{home, star_in, counted}
-use Rattle.board_rule.specs.declared.data.VersionedStar.{VersionedStar}
+use Rattle.board_rule.specs.Views.{home, counted}
+use Rattle.board_rule.specs.Homes.{VersionedStar}
 use Rattle.board_rule.specs.declared.data.Slot.TheVariants.{Home}
 use Rattle.board_rule.specs.declared.view.PassView.{PassView}
 use Rattle.vertex_claims.specs.Passes.{know, slot}
@@ -22,49 +22,55 @@ use Rattle.held_stars.specs.declared.stopped.Stopped.{Stopped}
 use Rattle.held_stars.specs.declared.stopped.Stopped.TheVariants.{Busy, Quit}
 use Rattle.held_stars.specs.declared.hold.Hold.{Hold}
 
--- ---- the slots of the places that are held
+-- ---- the places that are held
 
--- each slot has its version, and the star of its place in this complex, but for the places whose stars are lent
-abbrev pub Lends : Pass → ComplexView → List ℕ → Type 0
-Lends pass k lent = (q : ℕ) (x : VersionedStar) → item (know pass).items q ≡ some x → (s : VertexStar) × (slot pass q ≡ some (Home (home s x.version))) × (has lent q ≡ false → s ≡ star_in k q)
+-- each has a slot with its version, which may lack what these flips add to it; which star lies there plays no part
+abbrev pub HasVersions : Pass → List Flip → Type 0
+HasVersions pass flips = (q : ℕ) (x : VersionedStar) → item (know pass).items q ≡ some x → (s : VertexStar) × (n : ℕ) × (slot pass q ≡ some (Home (home s n))) × (x.version ≡ n + cond (flips_touch q flips) 1 0)
 
--- the slots of these places have stars without a facet, of this dimension and with the versions that were there; the others are as they were
-abbrev pub Emptied : ℕ → Pass → Pass → List ℕ → Type 0
-Emptied d a b lent = (q : ℕ) → (has lent q ≡ true → (x : VersionedStar) → slot a q ≡ some (Home x) → slot b q ≡ some (Home (home (record { vertex = q; dim = d; rows = [] }) x.version))) × (has lent q ≡ false → slot b q ≡ slot a q)
-
--- each slot has its version, and the star of its place in this complex
-abbrev pub Hosts : Pass → ComplexView → Type 0
-Hosts pass k = (q : ℕ) (x : VersionedStar) → item (know pass).items q ≡ some x → slot pass q ≡ some (Home (home (star_in k q) x.version))
-
--- each slot has what was noted of its place, but that a version may lack what these flips add to it
-abbrev pub Settles : Pass → List Flip → Type 0
-Settles pass flips = (q : ℕ) (x : VersionedStar) → item (know pass).items q ≡ some x → (n : ℕ) × (slot pass q ≡ some (Home (home x.star n))) × (x.version ≡ n + cond (flips_touch q flips) 1 0)
+-- these stars, rising, are those of exactly these places
+pub record AreOf (items : List (ℕ × VersionedStar)) (stars : List VertexStar) : Type 0 where
+  pub rising : IsRising (vertices stars)
+  pub each : (q : ℕ) → has (vertices stars) q ≡ has_item items q
 
 -- this star is known of its place
 abbrev pub IsKnown : List (ℕ × VersionedStar) → VertexStar → Type 0
 IsKnown items s = (x : VersionedStar) × (item items s.vertex ≡ some x) × (s ≡ x.star)
 
--- ---- copies
+-- the stars of the places that are held are lent, as they are known, and their slots have the versions, but for what these flips add to them
+pub record Settles (pass : Pass) (flips : List Flip) (stars : List VertexStar) : Type 0 where
+  pub held : AreOf (know pass).items stars
+  pub known : AllByRecursion (IsKnown (know pass).items) stars
+  pub slots : HasVersions pass flips
 
--- stars are added to copies where their places have none
-abbrev pub with_copies : List VertexStar → List VertexStar → List VertexStar
-with_copies copies [] = copies
-with_copies copies (s ∷ lent) = with_copies (cond (has (vertices copies) s.vertex) copies (copies ++ s ∷ [])) lent
+-- ---- stars that are lent
 
--- stars of a beginning were added, and at the end all of them
-pub record Copies (was lent now : List VertexStar) : Type 0 where
-  pub front : List VertexStar
-  pub rest : List VertexStar
-  pub whole : lent ≡ front ++ rest
-  pub added : now ≡ with_copies was front
+-- a star is lent beside others, in its place among them, with room for its facets
+pub record Lends (old new : List KeptStar) (s : VertexStar) : Type 0 where
+  pub at : ℕ
+  pub kept : KeptStar
+  pub star : kept.star ≡ s
+  pub fits : length s.rows ≤ kept.room
+  pub now : new ≡ insert old at kept
+  pub rising : IsRising (vertices (shown new))
+
+-- it has room for its facets
+abbrev pub FitsRoom : KeptStar → Type 0
+FitsRoom s = length s.star.rows ≤ s.room
+
+-- each of these stars has room for what it is in a complex
+abbrev pub HaveRoom : ComplexView → List KeptStar → Type 0
+HaveRoom k near = AllByRecursion (λ s. length (star k.facets s.star.vertex) ≤ s.room) near
+
+-- and for what it was before each of the flips that led from a complex
+abbrev pub KeepRoom : ComplexView → List Flip → List KeptStar → Type 0
+KeepRoom k flips near = (front rest : List Flip) (m : ComplexView) → flips ≡ front ++ rest → replay k front ≡ Some m → HaveRoom m near
 
 -- ---- memory that is taken once
 
 pub record Roomy (h : Hold) : Type 0 where
-  pub places : 33 ≤ vec_capacity h.places
   pub flips : 4 ≤ vec_capacity h.flips
-  pub copies : 32 ≤ vec_capacity h.copies
-  pub lent : 8 ≤ vec_capacity h.lent
+  pub lent : 33 ≤ vec_capacity h.lent
 
 -- ---- a try whose first claim was won
 
@@ -99,24 +105,23 @@ pub record Going (begun : StartedTry) (v : PassView) : Type 0 where
   pub claiming : v.claiming ≡ true
   pub fresh : Unrefused try_now.vertices try_now.journal
 
--- these flips were made on the stars that are held, which are those of a complex now
-pub record Made (pass : Pass) (h : Hold) (now : ComplexView) : Type 0 where
-  pub replays : replay (know pass).seen h.flips.items ≡ Some now
-  pub faces : AllByRecursion OfFaces h.flips.items
-  pub labels : LabelsPass (has_item (know pass).items) h.flips.items
-  pub places : (q : ℕ) → has_item (know pass).items q ≡ true → has h.places.items q ≡ true
-  pub copied : (q : ℕ) → flips_touch q h.flips.items ≡ true → has (vertices h.copies.items) q ≡ true
-  pub known : AllByRecursion (IsKnown (know pass).items) h.copies.items
-  pub lent : h.lent.items ≡ []
-  pub hosts : Hosts pass now
+-- these flips were made on the stars of the places that are held, which are lent, and are those of a complex now
+pub record IsMade (pass : Pass) (flips : List Flip) (lent : List KeptStar) (now : ComplexView) : Type 0 where
+  pub replays : replay (know pass).seen flips ≡ Some now
+  pub faces : AllByRecursion OfFaces flips
+  pub labels : LabelsPass (has_item (know pass).items) flips
+  pub held : AreOf (know pass).items (shown lent)
+  pub stars : AllByRecursion (IsStarOf now) (shown lent)
+  pub room : KeepRoom (know pass).seen flips lent
+  pub slots : HasVersions pass []
   pub free : (know pass).has_journal ≡ false
 
--- each place that is held has its star at home, as it is known, or a copy of it
-pub record Restorable (pass : Pass) (h : Hold) : Type 0 where
-  pub slots : (q : ℕ) (x : VersionedStar) → item (know pass).items q ≡ some x → (s : VertexStar) × (slot pass q ≡ some (Home (home s x.version))) × (has (vertices h.copies.items) q ≡ false → s ≡ x.star)
-  pub known : AllByRecursion (IsKnown (know pass).items) h.copies.items
-  pub places : (q : ℕ) → has_item (know pass).items q ≡ true → has h.places.items q ≡ true
-  pub free : (know pass).has_journal ≡ false
+abbrev pub Made : Pass → Hold → ComplexView → Type 0
+Made pass h now = IsMade pass h.flips.items h.lent.items now
+
+-- the flips that were made can be taken back
+abbrev pub Restorable : Pass → Hold → Type 0
+Restorable pass h = (now : ComplexView) × Made pass h now
 
 -- one later claim was refused, as another worker held the place: a label of its flips, from 1, and another one than that where it began
 pub record RefusedAt (begun : StartedTry) (t : Try) (q o : ℕ) : Type 0 where
@@ -134,7 +139,7 @@ abbrev pub Reason : StartedTry → Try → Stopped → Type 0
 Reason begun t (Busy q o) = RefusedAt begun t q o
 Reason begun t Quit = Unrefused t.vertices t.journal
 
--- it stopped, no entry is new, and the stars that it holds can be put back as they came
+-- it stopped, no entry is new, and the flips that it made can be taken back
 pub record Ends (begun : StartedTry) (pass : Pass) (h : Hold) (stop : Stopped) : Type 0 where
   pub try_now : Try
   pub noting : Noting begun (know pass) try_now

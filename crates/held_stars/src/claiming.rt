@@ -12,6 +12,7 @@ ghost use Rattle.held_stars.specs.Gates.{Follows, Keeps, after_asked, fails, is_
 
 use crate::gate::Gate;
 use crate::hold::Hold;
+use crate::lending::lend;
 use crate::point::{Point, Step};
 use crate::stopped::Stopped;
 use vertex_claims::{Board, Claimed, Pass};
@@ -31,7 +32,7 @@ pub fn ask<G: Gate>(gate: &mut G, point: Point) -> Result<(), Stopped>
     }
 }
 
-// Claims one label, unless it is held already.
+// Claims one label, unless it is held already, and lends its star.
 fn claim_label<G: Gate>(
     board: &Board,
     pass: &mut Pass,
@@ -42,10 +43,10 @@ fn claim_label<G: Gate>(
     requires board { IsOf pass.old board.now }
     requires label { (0 < label) × (label ≤ places_on board.now) }
     requires going { (s : StartedTry) × (now : ComplexView) × Going s (know pass.old) × Made pass.old hold.old now }
-    requires room { Roomy hold.old × (length hold.old.places.items < 33) }
+    requires room { Roomy hold.old × (length hold.old.lent.items < 33) }
     ensures same { IsSame pass.old pass.new }
     ensures kept { ((know pass.new).worker ≡ (know pass.old).worker) × ((know pass.new).start ≡ (know pass.old).start) × ((know pass.new).places ≡ (know pass.old).places) }
-    ensures hold { (hold.new.flips.items ≡ hold.old.flips.items) × (hold.new.copies.items ≡ hold.old.copies.items) × Roomy hold.new × (length hold.new.places.items ≤ length hold.old.places.items + 1) }
+    ensures hold { (hold.new.flips.items ≡ hold.old.flips.items) × Roomy hold.new × (length hold.new.lent.items ≤ length hold.old.lent.items + 1) }
     ensures held { (q : ℕ) → has_item (know pass.old).items q ≡ true → has_item (know pass.new).items q ≡ true }
     ensures label { OnOk result (has_item (know pass.new).items label ≡ true) }
     ensures only { (q : ℕ) → has_item (know pass.new).items q ≡ true → (has_item (know pass.old).items q ≡ true) ⊎ (label ≡ q) }
@@ -63,13 +64,14 @@ fn claim_label<G: Gate>(
     match pass.claim(board, label) {
         Err(Claimed { place, owner }) => Err(Stopped::Busy { place, owner }),
         Ok(()) => {
-            hold.places.push_reserved(label);
+            lend(board, pass, &mut hold.lent, label);
             ask(gate, Point::Claimed)
         }
     }
 }
 
-/// Claims those of some labels that aren't held yet, in order, and asks the gate after each.
+/// Claims those of some labels that aren't held yet, in order, lends their stars, and asks the gate
+/// after each.
 ///
 /// # Errors
 /// `Busy` at the first label that another worker held, and `Quit` where the gate ends the try. The
@@ -85,10 +87,10 @@ pub fn claim_labels<G: Gate>(
     requires labels { IsFace labels.now }
     requires places { (q : ℕ) → has labels.now q ≡ true → q ≤ places_on board.now }
     requires going { (s : StartedTry) × (now : ComplexView) × Going s (know pass.old) × Made pass.old hold.old now × ((q : ℕ) → has labels.now q ≡ true → flips_touch q s.flips ≡ true) }
-    requires room { Roomy hold.old × (length hold.old.places.items + length labels.now ≤ 33) }
+    requires room { Roomy hold.old × (length hold.old.lent.items + length labels.now ≤ 33) }
     ensures same { IsSame pass.old pass.new }
     ensures kept { ((know pass.new).worker ≡ (know pass.old).worker) × ((know pass.new).start ≡ (know pass.old).start) × ((know pass.new).places ≡ (know pass.old).places) }
-    ensures hold { (hold.new.flips.items ≡ hold.old.flips.items) × (hold.new.copies.items ≡ hold.old.copies.items) × Roomy hold.new × (length hold.new.places.items ≤ length hold.old.places.items + length labels.now) }
+    ensures hold { (hold.new.flips.items ≡ hold.old.flips.items) × Roomy hold.new × (length hold.new.lent.items ≤ length hold.old.lent.items + length labels.now) }
     ensures held { OnOk result ((q : ℕ) → has labels.now q ≡ true → has_item (know pass.new).items q ≡ true) }
     ensures only { (q : ℕ) → has_item (know pass.new).items q ≡ true → (has_item (know pass.old).items q ≡ true) ⊎ (has labels.now q ≡ true) }
     ensures order { IfErr result (EndedAt labels.now (know pass.old).items (know pass.new).items) }

@@ -1,12 +1,12 @@
-//! What a worker does with the stars that it holds on a board: it lends them from their slots, makes
-//! flips on them, puts them back as they came or as they are after a commit, and gives its places back;
-//! and the gate that can end a try.
+//! What a worker does with the stars that it holds on a board: it takes them out of their slots, makes
+//! flips on them, takes flips back or leaves them after a commit, and gives its places back with their
+//! stars; and the gate that can end a try.
 //!
-//! A [`Hold`] remembers, in memory that is taken once, which places a try holds, which flips it made and
-//! how the stars were before. [`claim_labels`] claims the labels of a flip, [`make_flip`] makes it on
-//! their stars, and [`fetch`] claims the journal for a commit. However a try ends, it leaves nothing
-//! behind: without a commit [`roll_back`] puts the stars back as they came, and [`give_up`] gives all
-//! places back.
+//! A [`Hold`] remembers, in memory that is taken once, which flips a try made, and has the stars of the
+//! places that it holds. [`claim_labels`] claims the labels of a flip, [`make_flip`] makes it on their
+//! stars, and [`fetch`] claims the journal for a commit. However a try ends, it leaves nothing behind:
+//! without a commit [`roll_back`] takes its flips back, the last first, and [`give_up`] gives all places
+//! back.
 #![tactic(auto)]
 
 mod claiming;
@@ -23,6 +23,6 @@ pub use ending::{fetch, give_up, roll_back};
 pub use flipping::make_flip;
 pub use gate::{Gate, OpenGate};
 pub use hold::Hold;
-pub use lending::{give_back, lend};
+pub use lending::place_among;
 pub use point::{Point, Step};
 pub use stopped::Stopped;

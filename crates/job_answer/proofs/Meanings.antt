@@ -16,14 +16,27 @@ if_ok_so (Err e) P Q f h = tt
 
 -- ---- what bytes tell is one thing
 
-pub one_input : {X : Type 0} (r : Result X Fault) (x y : X) → r ≡ Ok x → r ≡ Ok y → x ≡ y
-one_input r x y e g = cc
+same_ok : {X : Type 0} (r q : Result X Fault) (x y : X) → r ≡ Ok x → q ≡ Ok y → r ≡ q → x ≡ y
+same_ok r q x y a b e = cc
 
-pub one_fault : {X : Type 0} (r : Result X Fault) (e f : Fault) → r ≡ Err e → r ≡ Err f → e ≡ f
-one_fault r e f p q = cc
+same_err : {X : Type 0} (r q : Result X Fault) (e f : Fault) → r ≡ Err e → q ≡ Err f → r ≡ q → e ≡ f
+same_err r q e f a b h = cc
 
-pub no_fault : {X : Type 0} (r : Result X Fault) (e : Fault) (x : X) → r ≡ Err e → r ≡ Ok x → ⊥
-no_fault r e x p q = cc
+err_no_ok : {X : Type 0} (r q : Result X Fault) (e : Fault) (x : X) → r ≡ Err e → q ≡ Ok x → r ≡ q → ⊥
+err_no_ok r q e x a b h = cc
+
+one_input : {F : Type 0} (m : Meaning F) (bytes : List ℕ) (x y : m.Input) → Lawful m → m.reads bytes (Ok x) → m.reads bytes (Ok y) → x ≡ y
+one_input m bytes x y l e g = same_ok (Ok x) (Ok y) x y refl refl (l.reads bytes (Ok x) (Ok y) e g)
+
+one_fault : {F : Type 0} (m : Meaning F) (bytes : List ℕ) (e f : Fault) → Lawful m → m.reads bytes (Err e) → m.reads bytes (Err f) → e ≡ f
+one_fault m bytes e f l p q = same_err (Err e) (Err f) e f refl refl (l.reads bytes (Err e) (Err f) p q)
+
+no_fault : {F : Type 0} (m : Meaning F) (bytes : List ℕ) (e : Fault) (x : m.Input) → Lawful m → m.reads bytes (Err e) → m.reads bytes (Ok x) → ⊥
+no_fault m bytes e x l p q = err_no_ok (Err e) (Ok x) e x refl refl (l.reads bytes (Err e) (Ok x) p q)
+
+-- a reading that is a function
+pub by_read : {X : Type 0} (read : List ℕ → Result X Fault) (bytes : List ℕ) (r q : Result X Fault) → read bytes ≡ r → read bytes ≡ q → r ≡ q
+by_read read bytes r q e g = sym e ∙ g
 
 -- ---- one answer
 
@@ -33,12 +46,12 @@ same_refusal e f s t xs ys p q n g a b i k = record { statuses = a.is_bad ∙ sy
 same_done : {F : Type 0} (m : Meaning F) (bytes : List ℕ) (s t : Status) (xs ys : List ℕ) (p q : F) → Lawful m → m.is_fixed → IsDone m bytes s xs p → IsDone m bytes t ys q → Same s t xs ys p q
 same_done {F} m bytes s t xs ys p q l z a b =
     let P : m.Input → Type 0 = λ x. m.answers x t ys q in
-    l.one z a.told s t xs ys p q a.answer (subst P (one_input (m.read bytes) b.told a.told b.input a.input) b.answer)
+    l.one z a.told s t xs ys p q a.answer (subst P (one_input m bytes b.told a.told l b.input a.input) b.answer)
 
 same_judgement : {F : Type 0} (m : Meaning F) (bytes : List ℕ) (s t : Status) (xs ys : List ℕ) (p q : F) → Lawful m → m.is_fixed → Judges m bytes s xs p → Judges m bytes t ys q → Same s t xs ys p q
-same_judgement m bytes s t xs ys p q l z (inl a) (inl b) = same_refusal a.first b.first s t xs ys p q m.nothing (one_fault (m.read bytes) a.first b.first a.has b.has) a.refused b.refused a.reports b.reports
-same_judgement m bytes s t xs ys p q l z (inl a) (inr b) = absurd (no_fault (m.read bytes) a.first b.told a.has b.input)
-same_judgement m bytes s t xs ys p q l z (inr a) (inl b) = absurd (no_fault (m.read bytes) b.first a.told b.has a.input)
+same_judgement m bytes s t xs ys p q l z (inl a) (inl b) = same_refusal a.first b.first s t xs ys p q m.nothing (one_fault m bytes a.first b.first l a.has b.has) a.refused b.refused a.reports b.reports
+same_judgement m bytes s t xs ys p q l z (inl a) (inr b) = absurd (no_fault m bytes a.first b.told l a.has b.input)
+same_judgement m bytes s t xs ys p q l z (inr a) (inl b) = absurd (no_fault m bytes b.first a.told l b.has a.input)
 same_judgement m bytes s t xs ys p q l z (inr a) (inr b) = same_done m bytes s t xs ys p q l z a b
 
 pub same_answer : {F : Type 0} (m : Meaning F) (bytes : List ℕ) (s t : Status) (xs ys : List ℕ) (p q : F) → Lawful m → m.is_fixed → Answers m bytes s xs p → Answers m bytes t ys q → Same s t xs ys p q
@@ -69,17 +82,17 @@ verdict_done {F} m bytes s xs p v (inr a) = record { short = a.short; done = jud
     judged (inr b) = b
 
 -- and an input gets one
-pub input_done : {F : Type 0} (m : Meaning F) (bytes : List ℕ) (s : Status) (xs : List ℕ) (p : F) → length bytes ≤ m.limit → (x : m.Input) → m.read bytes ≡ Ok x → Answers m bytes s xs p → m.answers x s xs p
-input_done m bytes s xs p h x e (inl a) = absurd (omega (arith, a.long, h))
-input_done {F} m bytes s xs p h x e (inr a) = judged a.judged
+pub input_done : {F : Type 0} (m : Meaning F) (bytes : List ℕ) (s : Status) (xs : List ℕ) (p : F) → Lawful m → length bytes ≤ m.limit → (x : m.Input) → m.reads bytes (Ok x) → Answers m bytes s xs p → m.answers x s xs p
+input_done m bytes s xs p l h x e (inl a) = absurd (omega (arith, a.long, h))
+input_done {F} m bytes s xs p l h x e (inr a) = judged a.judged
   where
     judged : Judges m bytes s xs p → m.answers x s xs p
-    judged (inl b) = absurd (no_fault (m.read bytes) b.first x b.has e)
-    judged (inr b) = let P : m.Input → Type 0 = λ y. m.answers y s xs p in subst P (one_input (m.read bytes) b.told x b.input e) b.answer
+    judged (inl b) = absurd (no_fault m bytes b.first x l b.has e)
+    judged (inr b) = let P : m.Input → Type 0 = λ y. m.answers y s xs p in subst P (one_input m bytes b.told x l b.input e) b.answer
 
 -- of the job
 pub input_ends : {F : Type 0} (m : Meaning F) (bytes : List ℕ) (s : Status) (xs : List ℕ) (p : F) → Lawful m → IsInput m bytes → Answers m bytes s xs p → m.may_end s
-input_ends m bytes s xs p l h a = l.ends h.told s xs p (input_done m bytes s xs p h.short h.told h.input a)
+input_ends m bytes s xs p l h a = l.ends h.told s xs p (input_done m bytes s xs p l h.short h.told h.input a)
 
 pub verdict_headline : {F : Type 0} (m : Meaning F) (bytes : List ℕ) (s : Status) (xs : List ℕ) (p : F) → Lawful m → HasVerdict s → Answers m bytes s xs p → m.headline bytes s xs p
 verdict_headline m bytes s xs p l v a = let d : IsDoneShort m bytes s xs p = verdict_done m bytes s xs p v a in l.headline bytes s xs p d.short d.done
@@ -92,6 +105,7 @@ judges_as into m bytes s xs p (inr a) = inr (record { told = a.told; input = a.i
 
 pub lawful_as : {F G : Type 0} (into : F → G) (m : Meaning F) → Lawful m → Lawful (reported_as into m)
 lawful_as {F} {G} into m l = record {
+  reads = l.reads;
   verdict = l.verdict;
   ends = λ x s xs p h. l.ends x s xs h.report h.holds;
   fits = λ x s xs p h. record { report = h.report; reports = h.reports; holds = l.fits x s xs h.report h.holds };

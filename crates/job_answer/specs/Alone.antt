@@ -1,4 +1,4 @@
--- The complex that the bytes of an input tell alone, or their first fault.
+-- The complex that the bytes of an input tell alone, or the two, or their first fault.
 use Rattle.std.specs.Prelude.{◌≡◌, ℕ, List, [], ◌∷◌, Result, Ok, Err}
 use Rattle.complex_core.specs.Complexes.{ComplexView}
 use Rattle.facet_text.specs.Grammar.{complex_at, Reading as ComplexReading}
@@ -28,3 +28,27 @@ complex_of bytes = alone bytes (complex_at bytes 0)
 abbrev pub GivesComplex : Result ComplexView Fault → Alone → Type 0
 GivesComplex (Ok k) read = read ≡ Ok k
 GivesComplex (Err e) read = Fails e read
+
+-- ---- two complexes, one behind the other
+
+-- two complexes, or the first fault
+abbrev pub Two : Type 0
+Two = Result (ComplexView × ComplexView) Fault
+
+-- and this one behind it
+abbrev pub behind : ComplexView → Alone → Two
+behind first (Ok second) = Ok (first, second)
+behind first (Err e) = Err e
+
+abbrev pub two : List ℕ → ComplexReading → Two
+two bytes (Ok x) = behind x.0 (alone bytes (complex_at bytes x.1))
+two bytes (Err e) = Err (of_text e)
+
+-- The complexes that the bytes tell, one behind the other and only blanks behind them, or their first fault.
+abbrev pub complexes_of : List ℕ → Two
+complexes_of bytes = two bytes (complex_at bytes 0)
+
+-- what a function returned is this reading, unless memory ran out
+abbrev pub GivesTwo : Result (ComplexView × ComplexView) Fault → Two → Type 0
+GivesTwo (Ok ks) read = read ≡ Ok ks
+GivesTwo (Err e) read = Fails e read

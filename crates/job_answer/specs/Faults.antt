@@ -6,7 +6,7 @@ use Rattle.facet_text.specs.declared.fault.TextFault.TheVariants as text
 use Rattle.job_answer.specs.declared.status.Status.{Status}
 use Rattle.job_answer.specs.declared.status.Status.TheVariants.{BadInput}
 use Rattle.job_answer.specs.declared.fault.Fault.{Fault}
-use Rattle.job_answer.specs.declared.fault.Fault.TheVariants.{TooLong, Syntax, Label, Twice, Size, NotPure, TooManyFacets, TooManyLabels, Count, Number, Memory}
+use Rattle.job_answer.specs.declared.fault.Fault.TheVariants.{TooLong, Syntax, Label, Twice, Size, NotPure, TooManyFacets, TooManyLabels, Count, Number, Unfit, Memory}
 
 -- ---- the line of a fault
 
@@ -14,9 +14,9 @@ use Rattle.job_answer.specs.declared.fault.Fault.TheVariants.{TooLong, Syntax, L
 abbrev pub bad_line : List ℕ → List ℕ
 bad_line words = codes "bad input " ++ (words ++ 10 ∷ [])
 
--- the same, and an offset
+-- the same, and a number: an offset, or which complex it is
 abbrev pub bad_line_at : List ℕ → ℕ → List ℕ
-bad_line_at words offset = bad_line (words ++ (32 ∷ decimal offset))
+bad_line_at words number = bad_line (words ++ (32 ∷ decimal number))
 
 -- the line of a fault (no input has the fault `Memory`)
 abbrev pub fault_line : Fault → List ℕ
@@ -30,6 +30,7 @@ fault_line TooManyFacets = bad_line (codes "too many facets")
 fault_line TooManyLabels = bad_line (codes "too many labels")
 fault_line (Count offset) = bad_line_at (codes "count") offset
 fault_line (Number offset) = bad_line_at (codes "number") offset
+fault_line (Unfit which) = bad_line_at (codes "unfit") which
 fault_line Memory = []
 
 -- ---- the faults of the text of a complex

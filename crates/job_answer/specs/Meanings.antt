@@ -10,9 +10,9 @@ use Rattle.job_answer.specs.declared.status.Status.{Status}
 pub record Meaning (F : Type 0) : Type 1 where
   -- the most bytes of an input
   pub limit : ℕ
-  -- what the bytes tell, or their first fault
+  -- what the bytes tell, or why they are no input: one of these
   pub Input : Type 0
-  pub read : List ℕ → Result Input Fault
+  pub reads : List ℕ → Result Input Fault → Type 0
   -- the status, the text and the report that answer this input
   pub answers : Input → Status → List ℕ → F → Type 0
   -- what is reported where nothing is found
@@ -25,6 +25,10 @@ pub record Meaning (F : Type 0) : Type 1 where
   -- what a verdict on these bytes shows: the journal that is reported is one legal history, and a Yes is what its replay shows
   pub headline : List ℕ → Status → List ℕ → F → Type 0
 
+-- the reading of the bytes is this one
+abbrev pub by : {X : Type 0} → (List ℕ → Result X Fault) → List ℕ → Result X Fault → Type 0
+by read bytes r = read bytes ≡ r
+
 -- ---- the answer to bytes
 
 -- more bytes than an input may have
@@ -36,14 +40,14 @@ pub record IsTooLong {F : Type 0} (m : Meaning F) (bytes : List ℕ) (status : S
 -- no input, for its first fault
 pub record IsNoInput {F : Type 0} (m : Meaning F) (bytes : List ℕ) (status : Status) (text : List ℕ) (found : F) : Type 0 where
   pub first : Fault
-  pub has : m.read bytes ≡ Err first
+  pub has : m.reads bytes (Err first)
   pub refused : Refuses first status text
   pub reports : found ≡ m.nothing
 
 -- an input, which this answers
 pub record IsDone {F : Type 0} (m : Meaning F) (bytes : List ℕ) (status : Status) (text : List ℕ) (found : F) : Type 0 where
   pub told : m.Input
-  pub input : m.read bytes ≡ Ok told
+  pub input : m.reads bytes (Ok told)
   pub answer : m.answers told status text found
 
 -- what bytes of a length within the limit are answered
@@ -62,7 +66,7 @@ Answers m bytes status text found = IsTooLong m bytes status text found ⊎ IsRe
 pub record IsInput {F : Type 0} (m : Meaning F) (bytes : List ℕ) : Type 0 where
   pub short : length bytes ≤ m.limit
   pub told : m.Input
-  pub input : m.read bytes ≡ Ok told
+  pub input : m.reads bytes (Ok told)
 
 -- ---- what holds of every job
 
@@ -72,9 +76,10 @@ pub record Same {F : Type 0} (s t : Status) (xs ys : List ℕ) (p q : F) : Type 
   pub texts : xs ≡ ys
   pub reports : p ≡ q
 
--- its ends are verdicts; each of its answers is one of them, with a report that fits, and has the headline; and where an input
+-- bytes are read in one way; its ends are verdicts; each of its answers is one of them, with a report that fits, and has the headline; and where an input
 -- has one answer there is one
 pub record Lawful {F : Type 0} (m : Meaning F) : Type 0 where
+  pub reads : (bytes : List ℕ) (r q : Result m.Input Fault) → m.reads bytes r → m.reads bytes q → r ≡ q
   pub verdict : (s : Status) → m.may_end s → HasVerdict s
   pub ends : (x : m.Input) (s : Status) (text : List ℕ) (p : F) → m.answers x s text p → m.may_end s
   pub fits : (x : m.Input) (s : Status) (text : List ℕ) (p : F) → m.answers x s text p → m.fits s p
@@ -93,7 +98,7 @@ abbrev pub reported_as : {F G : Type 0} → (F → G) → Meaning F → Meaning 
 reported_as into m = record {
   limit = m.limit;
   Input = m.Input;
-  read = m.read;
+  reads = m.reads;
   answers = λ x status text. Reported into (m.answers x status text);
   nothing = into m.nothing;
   may_end = m.may_end;

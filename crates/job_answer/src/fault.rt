@@ -6,7 +6,8 @@ ghost use Rattle.job_answer.specs.declared.fault.Fault.TheVariants.{Memory};
 use facet_text::TextFault;
 use std::alloc::{AllocError, Global};
 
-/// Why an input is refused: its first fault from left to right. An offset counts the bytes before it.
+/// Why an input is refused: its first fault from left to right, and behind them the first complex that the job can't take. An
+/// offset counts the bytes before it.
 #[derive(Clone, Copy)]
 pub enum Fault {
     /// More bytes than the job takes.
@@ -29,6 +30,8 @@ pub enum Fault {
     Count(usize),
     /// A number out of its range.
     Number(usize),
+    /// The first complex, or the second, is none of this job.
+    Unfit(u32),
     /// Memory ran out.
     Memory,
 }
@@ -60,13 +63,13 @@ fn line(alloc: Global, words: &str) -> Result<String, AllocError>
     Ok(text)
 }
 
-// The line of a fault at an offset.
-fn line_at(alloc: Global, words: &str, offset: usize) -> Result<String, AllocError>
-    ensures { IfOk result (λ t. string_bytes t ≡ bad_line_at words.now offset) }
+// The line of a fault with a number.
+fn line_at(alloc: Global, words: &str, number: usize) -> Result<String, AllocError>
+    ensures { IfOk result (λ t. string_bytes t ≡ bad_line_at words.now number) }
 {
     let mut text = String::from_str(alloc, "bad input ")?;
     text.push_str(words)?;
-    write!(text, " {offset}\n")?;
+    write!(text, " {number}\n")?;
     Ok(text)
 }
 
@@ -86,6 +89,7 @@ pub(crate) fn fault_line(alloc: Global, fault: Fault) -> Result<String, AllocErr
         Fault::TooManyLabels => line(alloc, "too many labels"),
         Fault::Count(offset) => line_at(alloc, "count", offset),
         Fault::Number(offset) => line_at(alloc, "number", offset),
+        Fault::Unfit(which) => line_at(alloc, "unfit", which as usize),
         Fault::Memory => Err(AllocError),
     }
 }

@@ -8,7 +8,7 @@ mod lines;
 mod said;
 mod status;
 
-pub use alone::read_alone;
+pub use alone::{read_alone, read_two};
 pub use fault::Fault;
 pub use lines::{
     apart_line, clash_line, euler_line, reason_name, ridge_line, write_complex_line, write_set_off,

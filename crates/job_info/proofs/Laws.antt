@@ -1,8 +1,9 @@
 -- The laws of the job `info`.
 use Rattle.std.proofs.Common.{◌≡◌, ℕ, List, inl, inr, sym, ◌∙◌}
 use Rattle.complex_core.specs.Complexes.{ComplexView}
+use Rattle.job_answer.specs.Alone.{complex_of}
 use Rattle.job_answer.specs.Meanings.{Lawful, Same}
-use Rattle.job_answer.proofs.Meanings.{IsDoneShort, verdict_done}
+use Rattle.job_answer.proofs.Meanings.{IsDoneShort, verdict_done, by_read}
 use Rattle.job_answer.specs.declared.status.Status.{Status}
 use Rattle.job_answer.specs.declared.status.Status.TheVariants.{Yes, No}
 use Rattle.job_info.specs.Answers.{IsInfo, meaning}
@@ -14,6 +15,7 @@ same_info k s t xs ys a b = record { statuses = a.is_yes ∙ sym b.is_yes; texts
 
 pub lawful : Lawful meaning
 lawful = record {
+  reads = by_read complex_of;
   verdict = λ s e. inl (inl e);
   ends = λ k s xs p a. a.is_yes;
   fits = λ k s xs p a. tt;

@@ -2,7 +2,7 @@
 use Rattle.std.specs.Prelude.{◌≡◌, ℕ, List, Ok}
 use Rattle.complex_core.specs.Complexes.{ComplexView}
 use Rattle.job_answer.specs.Alone.{complex_of}
-use Rattle.job_answer.specs.Meanings.{Meaning}
+use Rattle.job_answer.specs.Meanings.{Meaning, by}
 use Rattle.job_answer.specs.declared.status.Status.{Status}
 use Rattle.job_answer.specs.declared.status.Status.TheVariants.{Yes}
 use Rattle.job_info.specs.Descriptions.{Describes}
@@ -23,7 +23,7 @@ abbrev pub meaning : Meaning (Unit {0})
 meaning = record {
   limit = 4194304;
   Input = ComplexView;
-  read = complex_of;
+  reads = by complex_of;
   answers = IsInfo;
   nothing = tt;
   may_end = λ status. status ≡ Yes;

@@ -2,8 +2,9 @@
 use Rattle.std.proofs.Common.{◌≡◌, ℕ, List, inl}
 use Rattle.complex_core.specs.Complexes.{ComplexView}
 use Rattle.cert_text.specs.Statements.{Statement}
+use Rattle.job_replay.specs.Readings.{input_of}
 use Rattle.job_answer.specs.Meanings.{Answers, Lawful, Same}
-use Rattle.job_answer.proofs.Meanings.{IsDoneShort, verdict_done, input_done}
+use Rattle.job_answer.proofs.Meanings.{IsDoneShort, verdict_done, input_done, by_read}
 use Rattle.job_answer.specs.declared.status.Status.{Status}
 use Rattle.job_answer.specs.declared.status.Status.TheVariants.{Yes}
 use Rattle.job_replay.specs.Answers.{IsVerdict, TellsCertified, meaning}
@@ -17,6 +18,7 @@ same x s t xs ys a b =
 
 pub lawful : Lawful meaning
 lawful = record {
+  reads = by_read input_of;
   verdict = λ s d. inl d;
   ends = λ x s xs p a. verdict_decided x.0 x.1 s xs a;
   fits = λ x s xs p a. tt;
@@ -30,7 +32,7 @@ yes_told bytes s xs a e =
     record { short = d.short; start = d.done.told.0; statement = d.done.told.1; input = d.done.input; shows = yes_shows d.done.told.0 d.done.told.1 s xs d.done.answer e }
 
 told_yes : (bytes : List ℕ) (s : Status) (xs : List ℕ) → Answers meaning bytes s xs tt → TellsCertified bytes → s ≡ Yes
-told_yes bytes s xs a h = shown_yes h.start h.statement s xs (input_done meaning bytes s xs tt h.short (h.start, h.statement) h.input a) h.shows
+told_yes bytes s xs a h = shown_yes h.start h.statement s xs (input_done meaning bytes s xs tt lawful h.short (h.start, h.statement) h.input a) h.shows
 
 pub yes_is_certified : YesIsCertified
 yes_is_certified bytes s xs a = (λ e. yes_told bytes s xs a e, λ h. told_yes bytes s xs a h)

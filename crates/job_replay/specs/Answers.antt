@@ -5,7 +5,7 @@ use Rattle.cert_text.specs.Statements.{Statement}
 use Rattle.cert_replay.specs.Answers.{IsAnswer as IsReplayOf, Certifies}
 use Rattle.cert_replay.specs.declared.judge.Replayed.{Replayed}
 use Rattle.cert_replay.specs.declared.judge.Replayed.TheVariants.{Valid, Bad, WrongEnd}
-use Rattle.job_answer.specs.Meanings.{Meaning}
+use Rattle.job_answer.specs.Meanings.{Meaning, by}
 use Rattle.job_answer.specs.Statuses.{IsDecided}
 use Rattle.job_answer.specs.declared.status.Status.{Status}
 use Rattle.job_answer.specs.declared.status.Status.TheVariants.{Yes, No}
@@ -42,7 +42,7 @@ abbrev pub meaning : Meaning (Unit {0})
 meaning = record {
   limit = 268435456;
   Input = ComplexView × Statement;
-  read = input_of;
+  reads = by input_of;
   answers = λ x status text found. IsVerdict x.0 x.1 status text;
   nothing = tt;
   may_end = IsDecided;

@@ -10,10 +10,12 @@ use Rattle.job_answer.specs.declared.status.Status.TheVariants.{Yes, No, Undecid
 use Rattle.job_replay.specs.Answers as replay
 use Rattle.job_trace.specs.Answers as trace
 use Rattle.job_info.specs.Answers as info
+use Rattle.job_iso.specs.Answers as iso
 use Rattle.job_sphere.specs.Answers as sphere
 use Rattle.job_replay.proofs.Laws as replay_laws
 use Rattle.job_trace.proofs.Laws as trace_laws
 use Rattle.job_info.proofs.Laws as info_laws
+use Rattle.job_iso.proofs.Laws as iso_laws
 use Rattle.job_sphere.proofs.Laws as sphere_laws
 use Rattle.job_run.specs.Jobs.{IsJob, AsksForSphere, built, of_nothing, of_trace, of_sphere, meaning_of}
 use Rattle.job_run.specs.Answers.{MayEnd, FitsJob}
@@ -42,6 +44,7 @@ pub lawful_of : (j : Job) → Lawful (meaning_of j)
 lawful_of job.Replay = lawful_as of_nothing replay.meaning replay_laws.lawful
 lawful_of job.Trace = lawful_as of_trace trace.meaning trace_laws.lawful
 lawful_of job.Info = lawful_as of_nothing info.meaning info_laws.lawful
+lawful_of job.Iso = lawful_as of_nothing iso.meaning iso_laws.lawful
 lawful_of (job.Sphere plan) = lawful_as of_sphere (sphere.meaning plan) (sphere_laws.lawful plan)
 
 -- where nothing is found nothing is reported
@@ -49,6 +52,7 @@ pub nothing_of : (j : Job) → (meaning_of j).nothing ≡ report.Nothing
 nothing_of job.Replay = refl
 nothing_of job.Trace = refl
 nothing_of job.Info = refl
+nothing_of job.Iso = refl
 nothing_of (job.Sphere plan) = refl
 
 -- ---- who may say Undecided, and who reports
@@ -72,6 +76,11 @@ undecided_job words job.Trace n d = absurd (never d)
     never (inl y) = not_yes (sym y)
     never (inr m) = not_no (sym m)
 undecided_job words job.Info n d = absurd (not_yes (sym d))
+undecided_job words job.Iso n d = absurd (never d)
+  where
+    never : MayEnd job.Iso Undecided → ⊥
+    never (inl y) = not_yes (sym y)
+    never (inr m) = not_no (sym m)
 undecided_job words (job.Sphere plan) n d = record { plan = plan; named = n }
 
 -- a job that is neither `trace` nor `sphere` reports nothing
@@ -79,4 +88,5 @@ pub silent_job : (words : List (List ℕ)) (j : Job) (s : Status) (p : JobReport
 silent_job words job.Replay s p n t o f = f.reports
 silent_job words job.Trace s p n t o f = absurd (t n)
 silent_job words job.Info s p n t o f = f.reports
+silent_job words job.Iso s p n t o f = f.reports
 silent_job words (job.Sphere plan) s p n t o f = absurd (o (record { plan = plan; named = n }))

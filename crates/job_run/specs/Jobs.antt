@@ -12,6 +12,7 @@ use Rattle.job_answer.specs.Meanings.{Meaning, reported_as}
 use Rattle.job_replay.specs.Answers as replay
 use Rattle.job_trace.specs.Answers as trace
 use Rattle.job_info.specs.Answers as info
+use Rattle.job_iso.specs.Answers as iso
 use Rattle.job_sphere.specs.Answers as sphere
 use Rattle.job_run.specs.declared.job.Job.{Job}
 use Rattle.job_run.specs.declared.job.Job.TheVariants as job
@@ -25,9 +26,9 @@ abbrev pub named : JobName → Numbers → Option Job
 named name.Replay plan = Some job.Replay
 named name.Trace plan = Some job.Trace
 named name.Info plan = Some job.Info
+named name.Iso plan = Some job.Iso
 named name.Sphere plan = Some (job.Sphere plan)
 named name.Equiv plan = None
-named name.Iso plan = None
 named name.Manifold plan = None
 named name.Make plan = None
 named name.Drill plan = None
@@ -69,6 +70,7 @@ abbrev pub meaning_of : Job → Meaning JobReport
 meaning_of job.Replay = reported_as of_nothing replay.meaning
 meaning_of job.Trace = reported_as of_trace trace.meaning
 meaning_of job.Info = reported_as of_nothing info.meaning
+meaning_of job.Iso = reported_as of_nothing iso.meaning
 meaning_of (job.Sphere plan) = reported_as of_sphere (sphere.meaning plan)
 
 -- the most bytes of an input

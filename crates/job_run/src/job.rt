@@ -12,6 +12,7 @@ pub(crate) enum Job {
     Replay,
     Trace,
     Info,
+    Iso,
     Sphere(Plan),
 }
 
@@ -24,9 +25,9 @@ impl Job {
             JobName::Replay => Some(Job::Replay),
             JobName::Trace => Some(Job::Trace),
             JobName::Info => Some(Job::Info),
+            JobName::Iso => Some(Job::Iso),
             JobName::Sphere => Some(Job::Sphere(asked.plan)),
-            JobName::Equiv | JobName::Iso | JobName::Manifold | JobName::Make | JobName::Drill =>
-                None,
+            JobName::Equiv | JobName::Manifold | JobName::Make | JobName::Drill => None,
         }
     }
 
@@ -50,6 +51,7 @@ impl Job {
             Job::Replay => job_replay::MOST_BYTES,
             Job::Trace => job_trace::MOST_BYTES,
             Job::Info => job_info::MOST_BYTES,
+            Job::Iso => job_iso::MOST_BYTES,
             Job::Sphere(_) => job_sphere::MOST_BYTES,
         }
     }

@@ -22,6 +22,7 @@ use flip_io::{Failed, ReadAllFault, Sink, Source, read_all, write_all};
 use held_stars::Gate;
 use job_answer::{Fault, Said, Status, plain, refuse};
 use job_info::info;
+use job_iso::iso;
 use job_replay::replay_input;
 use job_sphere::sphere;
 use job_trace::trace;
@@ -101,6 +102,7 @@ fn judge<R: Threads + Sync, G: Gate + Send>(
         Job::Replay => Ok(silent(replay_input(alloc, bytes)?)),
         Job::Trace => judge_trace(alloc, bytes),
         Job::Info => Ok(silent(info(alloc, bytes)?)),
+        Job::Iso => Ok(silent(iso(alloc, bytes)?)),
         Job::Sphere(plan) => judge_sphere(rt, alloc, &plan, bytes, gates),
     }
 }
@@ -172,7 +174,9 @@ fn prepare<R: Threads + Sync, S: Source, G: Gate + Send>(
 ///   certificate: of a sphere, of an equivalence with another complex, or of a manifold.
 /// - `trace` reads a trace of at most 4,194,304 bytes, and runs its events.
 /// - `info` reads a complex of at most 4,194,304 bytes, behind which only blanks stand, and describes it.
-/// - `sphere` reads such a complex too, and says what keeps it from being led to the boundary of a simplex: the first of four
+/// - `iso` reads two complexes, one behind the other, of at most 4,194,304 bytes together, and tells the least map of labels that
+///   takes the first to the second, or that there is none.
+/// - `sphere` reads a complex as `info` does, and says what keeps it from being led to the boundary of a simplex: the first of four
 ///   facts of a sphere that it lacks. From a complex that lacks none it searches for legal flips that lead there: a descent, in
 ///   which each flip leaves fewer facets, and then, until a descent ends there, rounds of the workers, with a descent behind each.
 ///   The flips that are found are printed as a certificate.
@@ -201,7 +205,7 @@ pub fn run_job<R: Threads + Sync, S: Source, K: Sink, G: Gate + Send>(
     ensures answer { IsWritten result.status → IfSome (S.left source.old) (λ bytes. Answered (K.written sink.old) (K.written sink.new) (λ text. IsAnswer (map string_bytes words.now) bytes result.status text result.report)) }
 
     // A verdict is one of the job's. What it tells is said by the laws of the job's crate, over the answer: `replay_law`, `trace_law`,
-    // `info_law` and `sphere_law`.
+    // `info_law`, `iso_law` and `sphere_law`.
     ensures verdict { (j : Job) → IsJob (map string_bytes words.now) j → HasVerdict result.status → MayEnd j result.status }
 
     // In all rounds together a worker quits at most as often as the count of its gate rose.

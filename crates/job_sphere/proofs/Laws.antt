@@ -5,9 +5,10 @@ use Rattle.descent_laws.specs.Laws.{IsCycle}
 use Rattle.sphere_text.proofs.Cycles.{cycle_is_decided}
 use Rattle.anneal_plan.specs.Numbers.{Numbers}
 use Rattle.round_run.specs.Reports.{ReportView, ReportOk, IsSphere, IsUndecided}
+use Rattle.job_answer.specs.Alone.{complex_of}
 use Rattle.job_answer.specs.Meanings.{IsDone, Lawful, Same}
 use Rattle.job_answer.specs.Statuses.{EndsSearch, HasVerdict}
-use Rattle.job_answer.proofs.Meanings.{verdict_done, input_done}
+use Rattle.job_answer.proofs.Meanings.{verdict_done, input_done, by_read}
 use Rattle.job_answer.specs.declared.status.Status.{Status}
 use Rattle.job_answer.specs.declared.status.Status.TheVariants.{Yes, No, Undecided}
 use Rattle.job_sphere.specs.Answers.{IsObstructed, ComesTo, IsSearched, IsSphereAnswer, TellsObstacle, TellsSearch, TellsCertificate, FitsSphere, meaning}
@@ -127,6 +128,7 @@ done_obstacle plan bytes s xs p d n = told d.answer
 
 pub lawful : (plan : Numbers) → Lawful (meaning plan)
 lawful plan = record {
+  reads = by_read complex_of;
   verdict = λ s h. sphere_verdict s h;
   ends = λ k s xs p a. sphere_ends plan k s xs p a;
   fits = λ k s xs p a. sphere_fits plan k s xs p a;
@@ -154,4 +156,4 @@ cycle_yes plan k s xs p h (inl a) = absurd (no_obstacle k a.obstacle (cycle_is_d
 cycle_yes plan k s xs p h (inr a) = cycle_coming k plan a.search.report s xs h a.search.comes
 
 pub cycles_are_decided : CyclesAreDecided
-cycles_are_decided plan bytes s xs p a h = cycle_yes plan h.complex s xs p h.cycle (input_done (meaning plan) bytes s xs p h.short h.complex h.input a)
+cycles_are_decided plan bytes s xs p a h = cycle_yes plan h.complex s xs p h.cycle (input_done (meaning plan) bytes s xs p (lawful plan) h.short h.complex h.input a)

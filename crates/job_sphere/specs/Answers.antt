@@ -15,7 +15,7 @@ use Rattle.round_run.specs.Gates.{all_quits_at}
 use Rattle.round_run.specs.Reports.{ReportView, ReportOk, IsSphere, IsUndecided}
 use Rattle.report_text.specs.Shown.{told_flips, IsReported}
 use Rattle.job_answer.specs.Alone.{complex_of}
-use Rattle.job_answer.specs.Meanings.{Meaning}
+use Rattle.job_answer.specs.Meanings.{Meaning, by}
 use Rattle.job_answer.specs.Statuses.{EndsSearch}
 use Rattle.job_answer.specs.declared.status.Status.{Status}
 use Rattle.job_answer.specs.declared.status.Status.TheVariants.{Yes, No, Undecided}
@@ -156,7 +156,7 @@ abbrev pub meaning : Numbers → Meaning (Option ReportView)
 meaning plan = record {
   limit = 4194304;
   Input = ComplexView;
-  read = complex_of;
+  reads = by complex_of;
   answers = IsSphereAnswer plan;
   nothing = None;
   may_end = λ status. (status ≡ No) ⊎ EndsSearch status;

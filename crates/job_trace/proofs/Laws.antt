@@ -4,9 +4,10 @@ use Rattle.core_laws.specs.Cores.{Core}
 use Rattle.core_laws.specs.Runs.{Turn}
 use Rattle.core_laws.proofs.OneStep.{runs_one}
 use Rattle.trace_text.specs.Traces.{Trace, names}
+use Rattle.job_trace.specs.Readings.{input_of}
 use Rattle.job_answer.specs.Statuses.{IsDecided}
 use Rattle.job_answer.specs.Meanings.{Answers, Lawful, Same}
-use Rattle.job_answer.proofs.Meanings.{IsDoneShort, verdict_done, input_done}
+use Rattle.job_answer.proofs.Meanings.{IsDoneShort, verdict_done, input_done, by_read}
 use Rattle.job_answer.specs.declared.status.Status.{Status}
 use Rattle.job_answer.specs.declared.status.Status.TheVariants.{Yes, No}
 use Rattle.job_trace.specs.TraceTexts.{trace_answer}
@@ -56,6 +57,7 @@ run_decided false s e = inr e
 
 pub lawful : Lawful meaning
 lawful = record {
+  reads = by_read input_of;
   verdict = λ s d. inl d;
   ends = λ t s xs p a. run_decided (is_clean a.traced.turns a.last) s a.traced.status_is;
   fits = λ t s xs p a. (a.last, a.reports);
@@ -90,7 +92,7 @@ clean_run bytes h = record { turns = h.turns; events_are = h.events_are; run = h
 
 clean_yes : (bytes : List ℕ) (s : Status) (xs : List ℕ) (p : Option Core) → Answers meaning bytes s xs p → RunsClean bytes → s ≡ Yes
 clean_yes bytes s xs p a h =
-    let r : IsTraceRun h.trace s xs p = input_done meaning bytes s xs p h.short h.trace h.input a in
+    let r : IsTraceRun h.trace s xs p = input_done meaning bytes s xs p lawful h.short h.trace h.input a in
     (same_traced h.trace s (status_of h.trace h.turns) xs (text_of h.trace h.turns) r.last (end_of (opened_for h.trace) h.turns) r.traced (clean_run bytes h)).statuses
     ∙ ap (λ b. if b then Yes else No) h.clean
 

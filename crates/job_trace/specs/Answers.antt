@@ -4,7 +4,7 @@ use Rattle.std.specs.declared.option.Option.{Option}
 use Rattle.core_laws.specs.Cores.{Core}
 use Rattle.core_laws.specs.Runs.{Turn, IsRun}
 use Rattle.trace_text.specs.Traces.{Trace, names}
-use Rattle.job_answer.specs.Meanings.{Meaning}
+use Rattle.job_answer.specs.Meanings.{Meaning, by}
 use Rattle.job_answer.specs.Statuses.{IsDecided}
 use Rattle.job_answer.specs.declared.status.Status.{Status}
 use Rattle.job_trace.specs.Readings.{input_of}
@@ -41,7 +41,7 @@ abbrev pub meaning : Meaning (Option Core)
 meaning = record {
   limit = 4194304;
   Input = Trace;
-  read = input_of;
+  reads = by input_of;
   answers = IsTraceRun;
   nothing = None;
   may_end = IsDecided;

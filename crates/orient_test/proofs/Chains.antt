@@ -143,13 +143,6 @@ chain_back fs f g c us p =
 abbrev pub Climbs : List Reached → List (List ℕ) → ℕ → ℕ → Type 0
 Climbs reached pushed start now = (facets : List (List ℕ)) → IsTree facets reached → IsChain facets (at reached start).facet (at reached now).facet (times (at reached start).turned (at reached now).turned) (pushed ++ (at reached now).facet ∷ [])
 
-pub climb_start : (reached : List Reached) (start : ℕ) → Climbs reached [] start start
-climb_start reached start = λ facets t. let P : Bool → Type 0 = λ c. IsChain facets (at reached start).facet (at reached start).facet c ((at reached start).facet ∷ []) in subst P (same (at reached start).turned) (chain_one facets (at reached start).facet)
-  where
-    same : (c : Bool) → false ≡ times c c
-    same true = refl
-    same false = refl
-
 pub climb_next : (reached : List Reached) (pushed now_pushed : List (List ℕ)) (start now next : ℕ) (f : List ℕ) → Climbs reached pushed start now → 0 < now → now < length reached → f ≡ (at reached now).facet → now_pushed ≡ pushed ++ f ∷ [] → next ≡ (at reached now).from → Climbs reached now_pushed start next
 climb_next reached pushed now_pushed start now next f c l h ef ep en = λ facets t.
     let came : CameFrom facets reached now = t.came now l h in
@@ -170,13 +163,6 @@ climb_next reached pushed now_pushed start now next f c l h ef ep en = λ facets
     undo false true false = refl
     undo false false true = refl
     undo false false false = refl
-
-pub climb_end : (reached : List Reached) (pushed path : List (List ℕ)) (start now : ℕ) (f : List ℕ) → Climbs reached pushed start now → now ≡ 0 → f ≡ (at reached 0).facet → path ≡ pushed ++ f ∷ [] → (facets : List (List ℕ)) → IsTree facets reached → IsChain facets (at reached start).facet (at reached 0).facet (at reached start).turned path
-climb_end reached pushed path start now f c e ef ep facets t =
-    let R : ℕ → Type 0 = λ n. IsChain facets (at reached start).facet (at reached n).facet (times (at reached start).turned (at reached n).turned) (pushed ++ (at reached n).facet ∷ []) in
-    let P : Bool → Type 0 = λ b. IsChain facets (at reached start).facet (at reached 0).facet b (pushed ++ (at reached 0).facet ∷ []) in
-    let Q : List (List ℕ) → Type 0 = λ us. IsChain facets (at reached start).facet (at reached 0).facet (at reached start).turned us in
-    subst Q (ap (λ m. pushed ++ m ∷ []) (sym ef) ∙ sym ep) (subst P (ap (times (at reached start).turned) t.plain ∙ sym (times_none (at reached start).turned)) (subst R e (c facets t)))
 
 -- up to the first facet from one end of the step, and from the other
 pub clash_made : (reached : List Reached) (there back : ℕ) (us vs chain facets : List (List ℕ)) → IsTree facets reached → IsChain facets (at reached there).facet (at reached 0).facet (at reached there).turned us → IsChain facets (at reached back).facet (at reached 0).facet (at reached back).turned vs → chain ≡ reverse us ++ vs → Contradicts facets reached there back → IsClash facets chain

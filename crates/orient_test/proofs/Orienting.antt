@@ -33,9 +33,6 @@ sign_step rs i r old now next l at_one so_far step f =
 abbrev pub Covers : List (List ℕ) → (List ℕ → Option Bool) → ℕ → Type 0
 Covers fs signs n = (k : ℕ) → k < n → k < length fs → is_some (signs (get_or fs k [])) ≡ true
 
-pub forced_none : (fs : List (List ℕ)) (signs : List ℕ → Option Bool) → ((f : List ℕ) → signs f ≡ None) → IsForced fs signs
-forced_none fs signs h f c s i e = none_some c (sym (h f) ∙ e)
-
 -- what spread from another facet is put over the signs so far
 pub forced_more : (fs : List (List ℕ)) (rs : List Reached) (old now : List ℕ → Option Bool) → IsForced fs old → IsForced fs (given rs) → ((f : List ℕ) → now f ≡ either (given rs f) (old f)) → IsForced fs now
 forced_more fs rs old now o n h f c s i e = go (given rs f) refl (given rs s.to) refl

@@ -4,14 +4,11 @@ use Rattle.std.specs.Option.{MatchOption}
 use Rattle.std.proofs.lemmas.Bool.{cases_lt}
 use Rattle.complex_core.specs.Labels.{has}
 use Rattle.complex_core.specs.Complexes.{is_facet}
-use Rattle.pseudo_test.proofs.Spreading.{has_at}
 use Rattle.orient_test.specs.declared.search.Reached.{Reached}
 use Rattle.orient_test.specs.Signs.{times}
 use Rattle.orient_test.specs.Walks.{Step, IsStep, turn}
 use Rattle.orient_test.specs.Spreads.{at, given, IsTree, IsForced, IsPlaced, IsCrossed, IsFew, ComeEarlier}
-use Rattle.orient_test.proofs.Chains.{same_place}
 use Rattle.orient_test.proofs.Trees.{at_front, given_place, given_new, tree_one, tree_earlier, few_start}
-use Rattle.std.proofs.lemmas.List.{get_or_default}
 use Rattle.complex_core.proofs.Members.{place_of_label}
 
 -- the steps from this facet lead to facets that have the forced signs
@@ -40,17 +37,6 @@ growing_start fs start rs places t e p = record {
   begins = ap (λ qs. given qs start) e ∙ given_new [] (record { facet = start; turned = false; from = 0 });
   done = λ k l. absurd (omega (arith, l));
 }
-
-pub inner_start : (fs : List (List ℕ)) (start : List ℕ) (rs : List Reached) (places : List ℕ → Option ℕ) (next : ℕ) (one : Reached) (labels : List ℕ) → Growing fs start rs places next → next < length rs → one ≡ get_or rs next one → labels ≡ one.facet → Inner fs start rs places next labels 0
-inner_start fs start rs places next one labels g l at_one e = record {
-  growing = g;
-  inside = l;
-  is = e ∙ ap (λ (r : Reached). r.facet) (at_one ∙ same_place rs next one l);
-  before = λ i h. absurd (omega (arith, h));
-}
-
-pub inner_label : (fs : List (List ℕ)) (start : List ℕ) (rs : List Reached) (places : List ℕ → Option ℕ) (next : ℕ) (labels : List ℕ) (j : ℕ) → Inner fs start rs places next labels j → j < length labels → has (at rs next).facet (get_or labels j 0) ≡ true
-inner_label fs start rs places next labels j n l = ap (λ m. has m (get_or labels j 0)) (sym n.is) ∙ has_at labels j (get_or labels j 0) l (get_or_default labels j 0 (get_or labels j 0) l)
 
 -- what was forced stays forced
 still : (fs : List (List ℕ)) (rs now : List Reached) (next label k : ℕ) (s : Step) → IsCrossed fs rs now next label → k < length rs → Forces fs rs k s → Forces fs now k s

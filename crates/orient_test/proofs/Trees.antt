@@ -12,7 +12,7 @@ use Rattle.complex_core.proofs.Laws.{same_sets_is, same_set_itself}
 use Rattle.orient_test.specs.declared.search.Reached.{Reached}
 use Rattle.orient_test.specs.Signs.{times}
 use Rattle.orient_test.specs.Walks.{Step, IsStep, turn}
-use Rattle.orient_test.specs.Spreads.{at, either, given, IsFew, IsNeighbour, NoNeighbour, CameFrom, IsTree, ComeEarlier, Contradicts, IsPlaced, IsCrossed}
+use Rattle.orient_test.specs.Spreads.{at, either, given, IsFew, IsNeighbour, CameFrom, IsTree, ComeEarlier, Contradicts, IsPlaced, IsCrossed}
 use Rattle.orient_test.proofs.Chains.{step_back, is_back, turn_back}
 use Rattle.complex_core.proofs.SubsetLists.{two, clash}
 
@@ -196,16 +196,6 @@ tree_one fs start rs t e = let P : List Reached → Type 0 = λ qs. IsTree fs qs
 nothing_more : (rs : List Reached) → rs ≡ rs ++ []
 nothing_more [] = refl
 nothing_more (r ∷ rs) = ap (λ qs. r ∷ qs) (nothing_more rs)
-
-pub crossed_none : (fs : List (List ℕ)) (rs : List Reached) (next label : ℕ) (f : List ℕ) → IsTree fs rs → f ≡ (at rs next).facet → NoNeighbour fs f label → IsCrossed fs rs rs next label
-crossed_none fs rs next label f t e none = record {
-  tree = t;
-  more = [];
-  grows = nothing_more rs;
-  keeps = λ g c h. h;
-  few = λ h. h;
-  forced = λ s i l. absurd (none s (let P : List ℕ → Type 0 = λ m. IsStep fs m s in subst P (sym e) i) l);
-}
 
 -- what a neighbour's sign has to be
 forced_by : (fs : List (List ℕ)) (rs : List Reached) (next label : ℕ) (f g : List ℕ) (turns : Bool) (now : List Reached) → f ≡ (at rs next).facet → IsNeighbour fs f label g turns → given now g ≡ Some (times (at rs next).turned turns) → (s : Step) → IsStep fs (at rs next).facet s → s.left ≡ label → given now s.to ≡ Some (times (at rs next).turned (turn (at rs next).facet s))

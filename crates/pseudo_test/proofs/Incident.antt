@@ -10,7 +10,7 @@ use Rattle.std.specs.declared.cmp.Ordering.{Ordering}
 use Rattle.std.specs.declared.cmp.Ordering.TheVariants.{Less, Equal, Greater}
 use Rattle.std.proofs.lemmas.Bool.{cases_lt, false_from_ne_true}
 use Rattle.std.proofs.lemmas.Cmp.{nat_cmp_total, tied_itself}
-use Rattle.std.proofs.lemmas.List.{flat_map_more, take_more, length-drop}
+use Rattle.std.proofs.lemmas.List.{length-drop}
 use Rattle.std.proofs.Math.Seq.{take-length}
 use Rattle.std.proofs.lemmas.List.Kept.{IsStrictlySortedBy-filter}
 use Rattle.std.proofs.lemmas.Map.Keys.{Less-from_sorted}
@@ -48,10 +48,6 @@ sorted_incidences = sorted_any incidence_total incidence_exact (λ s t. both_tie
 
 pub rising_incidences : (xs ys : List (List ℕ × ℕ)) → ys ≡ rising incidence_cmp xs → IsStrictlySortedBy incidence_cmp ys
 rising_incidences xs ys e = let P : List (List ℕ × ℕ) → Type 0 = λ zs. IsStrictlySortedBy incidence_cmp zs in subst P (sym e) (sorted_rising incidence_total xs)
-
-pub incidences_more : (fs : List (List ℕ)) (all new : List (List ℕ × ℕ)) (i : ℕ) (f : List ℕ) → all ≡ flat_map incidences_of (take i fs) → i < length fs → f ≡ get_or fs i f → new ≡ all ++ incidences_of f → new ≡ flat_map incidences_of (take (i + 1) fs)
-incidences_more fs all new i f e l at n =
-    n ∙ ap (λ v. v ++ incidences_of f) e ∙ flat_map_more incidences_of [] (take i fs) f ∙ ap (flat_map incidences_of) (sym (take_more fs i f l ∙ ap (λ v. take i fs ++ v ∷ []) (sym at)))
 
 -- ---- where a run lies
 

@@ -12,7 +12,7 @@ use Rattle.stars.specs.StarViews.{VertexStar}
 use Rattle.board_rule.specs.Items.{item, has_item}
 use Rattle.board_rule.specs.Tries.{Try}
 use Rattle.board_rule.specs.Views.{home_at}
-use Rattle.board_rule.specs.declared.data.VersionedStar.{VersionedStar}
+use Rattle.board_rule.specs.Homes.{VersionedStar}
 use Rattle.board_rule.proofs.Items.{some_of}
 use Rattle.round_rules.specs.Own.{HasStars}
 

@@ -1,7 +1,6 @@
 -- When a try must commit.
 use Rattle.std.proofs.Common.{◌≡◌, ◌≢◌, ◌⊎◌, inl, inr, ℕ, zero, suc, ◌≤ℤ◌, List, [], refl, subst, arith}
 use Rattle.std.proofs.lemmas.Int.{ints}
-use Rattle.flip_rules.specs.Entries.{JournalEntry}
 use Rattle.flip_rules.specs.declared.flip.Flip.{Flip}
 use Rattle.flip_rules.proofs.Journals.{star_is_one}
 use Rattle.anneal_plan.specs.Proposals.{allowed_of}
@@ -10,7 +9,7 @@ use Rattle.round_rules.specs.Laws.{TryCommits}
 use Rattle.board_rule.specs.Tries.{Unrefused}
 use Rattle.round_rules.specs.Rows.{BlockedRow, Row}
 use Rattle.round_rules.specs.Outcomes.{LegalAfter, BlockedAfter, EntersAfter, RowAfter, WonRow, Judges, star_at}
-use Rattle.round_rules.specs.Tasks.{Scene, Task, turns_of, changes}
+use Rattle.round_rules.specs.Tasks.{Task, turns_of, changes}
 use Rattle.round_rules.specs.declared.tried.Tried.{Tried}
 use Rattle.round_rules.specs.declared.tried.Tried.TheVariants.{Committed, Busy, Nothing, Blocked, Declined, Quit, NoMemory}
 

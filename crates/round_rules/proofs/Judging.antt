@@ -14,7 +14,7 @@ use Rattle.star_laws.proofs.FlipStars.{broken_rule_alike}
 use Rattle.stars.specs.StarViews.{VertexStar}
 use Rattle.board_rule.specs.Items.{item, has_item}
 use Rattle.board_rule.specs.Tries.{Try, last_with}
-use Rattle.board_rule.specs.declared.data.VersionedStar.{VersionedStar}
+use Rattle.board_rule.specs.Homes.{VersionedStar}
 use Rattle.vertex_claims.specs.Marks.{mark_of}
 use Rattle.vertex_claims.specs.declared.mark.Mark.{Mark}
 use Rattle.round_rules.specs.Rows.{Row}

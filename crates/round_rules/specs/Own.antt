@@ -11,7 +11,7 @@ use Rattle.board_rule.specs.Items.{item, has_item}
 use Rattle.board_rule.specs.Plays.{IsRefused}
 use Rattle.board_rule.specs.Tries.{Try}
 use Rattle.board_rule.specs.Views.{star_in}
-use Rattle.board_rule.specs.declared.data.VersionedStar.{VersionedStar}
+use Rattle.board_rule.specs.Homes.{VersionedStar}
 use Rattle.vertex_claims.specs.Marks.{mark_of}
 use Rattle.round_rules.specs.Tasks.{Task, place_of, turns_of}
 use Rattle.round_rules.specs.Rows.{Row}

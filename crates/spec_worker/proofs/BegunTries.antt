@@ -1,27 +1,31 @@
 -- A try from its first claim to its answer.
-use Rattle.std.proofs.Common.{◌≡◌, ℕ, ◌<◌, ◌%◌, true, false, cond, nat_eq, List, [], ◌∷◌, ◌++◌, length, slice_index, Result, Ok, Err, IfOk, IfErr, sym, ◌∙◌, ap, refl, subst, inl, inr, ⊎_elim, arith}
+use Rattle.std.proofs.Common.{◌≡◌, ℕ, ◌<◌, ◌≤◌, ◌||◌, ◌%◌, true, false, cond, nat_eq, List, [], ◌∷◌, ◌++◌, length, slice_index, Result, Ok, Err, IfOk, IfErr, sym, ◌∙◌, ap, refl, subst, inl, inr, ⊎_elim, arith}
 use Rattle.std.specs.List.{AllByRecursion}
 use mathlib.Core.Option.{some, some-injective}
 use Rattle.complex_core.specs.Labels.{has}
 use Rattle.complex_core.specs.Complexes.{ComplexView}
-use Rattle.complex_core.proofs.Laws.{nat_eq_same, or_left}
+use Rattle.complex_core.proofs.Booleans.{left_off}
 use Rattle.flip_rules.specs.Flips.{replay, OfFaces}
 use Rattle.flip_rules.specs.Entries.{JournalEntry}
 use Rattle.flip_rules.specs.declared.flip.Flip.{Flip}
-use Rattle.star_laws.specs.Stars.{flips_touch}
+use Rattle.star_laws.specs.Stars.{star, flips_touch}
+use Rattle.stars.specs.StarViews.{VertexStar, KeptStar, vertices, shown, IsStarOf}
 use Rattle.anneal_plan.specs.Turns.{after_flips}
 use Rattle.board_rule.specs.Items.{item, has_item}
 use Rattle.board_rule.specs.Plays.{Sees}
 use Rattle.board_rule.specs.Tries.{Try, won_try}
 use Rattle.board_rule.specs.Views.{home, star_in, Empty, opened_by}
-use Rattle.board_rule.specs.declared.data.VersionedStar.{VersionedStar}
+use Rattle.board_rule.specs.Homes.{VersionedStar}
 use Rattle.board_rule.specs.declared.data.Slot.TheVariants.{Home}
 use Rattle.board_rule.specs.declared.view.PassView.{PassView}
 use Rattle.board_rule.proofs.Items.{tested, off, has_some, item_front}
 use Rattle.vertex_claims.specs.Passes.{know, slot}
 use Rattle.vertex_claims.specs.declared.pass.Pass.{Pass}
-use Rattle.held_stars.specs.Holding.{StartedTry, Noting, Going, Made, IsKnown}
+use Rattle.held_stars.specs.Holding.{Lends, StartedTry, Noting, Going, Made}
 use Rattle.held_stars.specs.declared.hold.Hold.{Hold}
+use Rattle.held_stars.proofs.LentStars.{has_inserted, vertices_inserted, length_inserted, each_lent, each_shown, star_is}
+use Rattle.held_stars.proofs.MadeFlips.{touch_both, untouched}
+use Rattle.held_stars.proofs.Claims.{or_cond}
 use Rattle.vertex_claims.specs.Marks.{mark_of}
 use Rattle.round_rules.specs.Rows.{CommittedRow}
 use Rattle.round_rules.specs.Own.{OwnTry, OwnRow, EntersNext}
@@ -74,13 +78,13 @@ pub record Begun (task : Task) (o : TryPlan) (a b : Pass) (h : Hold) (dim : ℕ)
 only_place : (p q : ℕ) (x : VersionedStar) → has_item ((p, x) ∷ []) q ≡ true → p ≡ q
 only_place p q x = tested p q (λ t. cond t true false ≡ true → p ≡ q) (λ e _. e) (λ _ h. off h)
 
-pub begun : (task : Task) (o : TryPlan) (a b : Pass) (h : Hold) (dim : ℕ) (x : VersionedStar) (k : ComplexView) → IsTold o (know a).start.dim task → Empty (know a) → know b ≡ opened_by (know a) o.place x k → slot b o.place ≡ some (Home x) → dim ≡ (know a).start.dim
-    → h.places.items ≡ o.place ∷ [] → h.flips.items ≡ [] → h.copies.items ≡ [] → h.lent.items ≡ [] → Begun task o a b h dim
-begun task o a b h dim x k told empty known at is places flips copies lent =
+pub begun : (task : Task) (o : TryPlan) (a b : Pass) (h : Hold) (dim : ℕ) (x : VersionedStar) (k : ComplexView) (left : VertexStar) → IsTold o (know a).start.dim task → Empty (know a) → know b ≡ opened_by (know a) o.place x k → slot b o.place ≡ some (Home (home left x.version)) → dim ≡ (know a).start.dim
+    → Lends [] h.lent.items x.star → h.flips.items ≡ [] → Begun task o a b h dim
+begun task o a b h dim x k left told empty known at is lent flips =
     let p = o.place in
     let v = know a in
     let begun : StartedTry = record { place = p; flips = turns_of task x.star; home = x; dim = v.start.dim; worker = v.worker; earlier = v.tries; mine = v.mine } in
-    let star : x.star ≡ star_in k p = first_star a b p x k known in
+    let found : x.star ≡ star_in k p = first_star a b p x k known in
     let items : (know b).items ≡ (p, x) ∷ [] = ap (λ (w : PassView). w.items) known ∙ ap (λ (l : List (ℕ × VersionedStar)). (p, x) ∷ l) (no_items v a.sees empty) in
     let free : v.has_journal ≡ false = empty 0 in
     let going : Going begun (know b) = record {
@@ -101,19 +105,29 @@ begun task o a b h dim x k told empty known at is places flips copies lent =
       claiming = ap (λ (w : PassView). w.claiming) known;
       fresh = (refl, refl);
     } in
+    let own : lent.kept.star ≡ star_in k p = lent.star ∙ found in
+    let vertex : lent.kept.star.vertex ≡ p = ap (λ (u : VertexStar). u.vertex) own in
     let made : Made b h k = record {
       replays = ap (λ (w : PassView). replay w.seen h.flips.items) known ∙ ap (replay k) flips;
       faces = subst (AllByRecursion OfFaces) (sym flips) tt;
       labels = λ q t. off (ap (flips_touch q) (sym flips) ∙ t);
-      places = λ q t. ap (λ (l : List ℕ). has l q) places ∙ or_left (nat_eq p q) false (ap (λ (n : ℕ). nat_eq p n) (sym (only_place p q x (ap (λ (l : List (ℕ × VersionedStar)). has_item l q) (sym items) ∙ t))) ∙ nat_eq_same p);
-      copied = λ q t. off (ap (flips_touch q) (sym flips) ∙ t);
-      known = subst (AllByRecursion (IsKnown (know b).items)) (sym copies) tt;
-      lent = lent;
-      hosts = λ q y held.
+      held = record {
+        rising = lent.rising;
+        each = λ q. ap (λ (near : List KeptStar). has (vertices (shown near)) q) lent.now ∙ (ap (λ (xs : List ℕ). has xs q) (vertices_inserted [] lent.at lent.kept) ∙ (has_inserted [] lent.at lent.kept.star.vertex q
+            ∙ (ap (λ (n : ℕ). nat_eq n q || false) vertex ∙ (or_cond (nat_eq p q) false ∙ ap (λ (l : List (ℕ × VersionedStar)). has_item l q) (sym items)))));
+      };
+      stars = each_shown (IsStarOf k) h.lent.items (each_lent (λ t. IsStarOf k t.star) [] h.lent.items x.star lent tt (star_is k p lent.kept.star own));
+      room = λ front rest m e r. each_lent (λ t. length (star m.facets t.star.vertex) ≤ t.room) [] h.lent.items x.star lent tt
+          (let few = lent.fits in
+          let same : star_in m p ≡ star_in k p = untouched k m front p (sees_now a b p x k known).complex (ap (λ (w : PassView). replay w.seen front) (sym known) ∙ r) (left_off (flips_touch p front) (flips_touch p rest) (sym (ap (flips_touch p) (sym flips ∙ e) ∙ touch_both p front rest))) in
+          let here = ap (λ (n : ℕ). length (star m.facets n)) vertex in
+          let rows = ap (λ (u : VertexStar). length u.rows) (same ∙ sym found) in
+          omega (arith, few, here, rows));
+      slots = λ q y held.
           let here : item ((p, x) ∷ []) q ≡ some y = ap (λ (l : List (ℕ × VersionedStar)). item l q) (sym items) ∙ held in
           let one : p ≡ q = only_place p q x (has_some ((p, x) ∷ []) q y here) in
           let same_home : x ≡ y = some-injective x y (sym (item_front p x []) ∙ (ap (item ((p, x) ∷ [])) one ∙ here)) in
-          ap (slot b) (sym one) ∙ (at ∙ ap (λ (z : VersionedStar). some (Home z)) (same_home ∙ (λ i. home ((ap (λ (z : VersionedStar). z.star) (sym same_home) ∙ (star ∙ ap (star_in k) one)) i) y.version)));
+          (left, y.version, ap (slot b) (sym one) ∙ (at ∙ ap (λ (z : VersionedStar). some (Home (home left z.version))) same_home), omega arith);
       free = ap (λ (w : PassView). w.has_journal) known ∙ free;
     } in
     record {
@@ -125,9 +139,8 @@ begun task o a b h dim x k told empty known at is places flips copies lent =
         now = k;
         made = made;
         whole = ap (λ (fs : List Flip). fs ++ turns_of task x.star) (sym flips);
-        star = sym star ∙ ap (after_flips x.star) (sym flips);
-        places = let n = ap length places in omega (arith, n);
-        copies = let n = ap length copies in omega (arith, n);
+        star = sym found ∙ ap (after_flips x.star) (sym flips);
+        lent = let n = ap length lent.now in let m = length_inserted [] lent.at lent.kept in omega (arith, n, m);
       };
       worker = refl;
       earlier = refl;

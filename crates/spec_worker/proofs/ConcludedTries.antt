@@ -1,5 +1,5 @@
 -- How a try ends whose turns were made.
-use Rattle.std.proofs.Common.{◌≡◌, ◌≢◌, ℕ, ◌<◌, Bool, true, false, cond, suc, ℤ, ◌≤ℤ◌, ◌<ℤ◌, List, [], ◌∷◌, ◌++◌, length, ◌==◌, Some, IsSome, sym, ◌∙◌, ap, refl, subst, arith}
+use Rattle.std.proofs.Common.{◌≡◌, ◌≢◌, ℕ, ◌+◌, ◌<◌, Bool, true, false, cond, suc, ℤ, ◌≤ℤ◌, ◌<ℤ◌, List, [], ◌∷◌, ◌++◌, length, ◌==◌, Some, IsSome, sym, ◌∙◌, ap, refl, subst, arith}
 use Rattle.std.proofs.lemmas.List.{append-nil, nil_from_length}
 use Rattle.std.specs.List.{AllByRecursion}
 use mathlib.Core.Option.{some, none}
@@ -10,23 +10,24 @@ use Rattle.flip_rules.specs.declared.flip.Flip.{Flip}
 use Rattle.flip_rules.proofs.Replays.{replay_dim}
 use Rattle.star_laws.specs.Stars.{flips_touch, LabelsPass, star_after_all}
 use Rattle.star_laws.proofs.ReplayStars.{star_replayed}
-use Rattle.stars.specs.StarViews.{VertexStar}
+use Rattle.stars.specs.StarViews.{VertexStar, shown}
 use Rattle.anneal_plan.specs.declared.plan.Phase.{Phase}
 use Rattle.anneal_plan.specs.Proposals.{allowed_of}
 use Rattle.board_rule.specs.Items.{item, has_item}
 use Rattle.board_rule.specs.Plays.{IsRefused}
 use Rattle.board_rule.specs.Tries.{Try, refused_at, one_more}
 use Rattle.board_rule.specs.Views.{home, star_in, counted, with_journal, without_journal, committed, flipped_home, all_flipped}
-use Rattle.board_rule.specs.declared.data.VersionedStar.{VersionedStar}
+use Rattle.board_rule.specs.Homes.{VersionedStar}
 use Rattle.board_rule.specs.declared.data.Slot.TheVariants.{Home}
 use Rattle.board_rule.specs.declared.view.PassView.{PassView}
-use Rattle.board_rule.proofs.Items.{tested, off, has_flipped, item_flipped}
+use Rattle.board_rule.proofs.Items.{tested, off, some_of, has_flipped, item_flipped}
 use Rattle.vertex_claims.specs.Passes.{know, slot, Puts, SameSlots}
 use Rattle.vertex_claims.specs.declared.pass.Pass.{Pass}
-use Rattle.held_stars.specs.Holding.{StartedTry, Noting, Going, Made, Restorable, IsKnown, waits}
+use Rattle.held_stars.specs.Holding.{StartedTry, Noting, Going, Made, waits}
 use Rattle.held_stars.specs.declared.hold.Hold.{Hold}
 use Rattle.held_stars.proofs.GivenUp.{waits_journal}
-use Rattle.held_stars.proofs.MadeFlips.{made_restorable}
+use Rattle.held_stars.proofs.LentStars.{each_star_there, is_star}
+use Rattle.held_stars.proofs.MadeFlips.{made_moved}
 use Rattle.round_rules.specs.Own.{ReplaysOn}
 use Rattle.round_rules.specs.Tasks.{Task, changes}
 use Rattle.round_rules.specs.declared.tried.Tried.{Tried}
@@ -182,19 +183,6 @@ above task o dim shown flips sum told is h = told_so (λ d p. (sum ≡ changes d
 
 -- ---- ends without an entry
 
--- the slots of places from 1 are as before
-restorable_past : (a b : Pass) (h : Hold) → Restorable a h → (know b).items ≡ (know a).items → (know b).has_journal ≡ false → ((q : ℕ) → q ≢ 0 → slot b q ≡ slot a q) → Restorable b h
-restorable_past a b h r items free slots = record {
-  slots = λ q x at.
-      let old : item (know a).items q ≡ some x = ap (λ (l : List (ℕ × VersionedStar)). item l q) (sym items) ∙ at in
-      let s = r.slots q x old in
-      let low : 0 < q = (a.sees.stars q x old).0 in
-      (s.0, slots q (λ e. absurd (omega (arith, low, e))) ∙ s.1, s.2);
-  known = subst (λ (l : List (ℕ × VersionedStar)). AllByRecursion (IsKnown l) h.copies.items) (sym items) r.known;
-  places = λ q t. r.places q (ap (λ (l : List (ℕ × VersionedStar)). has_item l q) (sym items) ∙ t);
-  free = free;
-}
-
 pub ended : (task : Task) (s : StartedTry) (a b : Pass) (h : Hold) (now : ComplexView) (os : List ℕ) (answer : Tried) (g : Going s (know a)) → Made a h now → Waits (know a) (know b) g.try_now os s.earlier → (know b).has_journal ≡ false → ((q : ℕ) → q ≢ 0 → slot b q ≡ slot a q)
     → Cause task s (waited g.try_now os) answer → Ended task s b h answer
 ended task s a b h now os answer g m w free slots cause = record {
@@ -202,7 +190,7 @@ ended task s a b h now os answer g m w free slots cause = record {
   noting = noting_same s (know a) (know b) g.try_now (waited g.try_now os) g.noting (waited_note g.try_now os) w.tries w.worker w.start;
   mine = w.mine ∙ g.mine;
   reason = cause;
-  restorable = restorable_past a b h (made_restorable a a h now a.sees m refl m.hosts) w.items free slots;
+  restorable = (now, made_moved a b h.flips.items h.lent.items now m w.seen w.items free slots);
 }
 
 -- where nothing was claimed after the turns
@@ -322,10 +310,10 @@ legal_now s a b h os entries shown t won is =
 star_now : (k m : ComplexView) (flips : List Flip) (q : ℕ) (y : VersionedStar) → replay k flips ≡ Some m → y.star ≡ star_in k q → star_in m q ≡ (flipped_home flips q y).star
 star_now k m flips q y e is = (λ i. record { vertex = q; dim = replay_dim k m flips e i; rows = star_replayed k m flips q e i }) ∙ ap (λ (s : VertexStar). record s { rows = star_after_all s.rows flips q }) (sym is)
 
-pub entered : (task : Task) (s : StartedTry) (a b c : Pass) (h : Hold) (os : List ℕ) (entries : List JournalEntry) (shown : List Flip) (round n : ℕ) (k : ComplexView) → h.flips.items ≢ [] → IsStartOf task s → Turned s a h []
-    → changes task.dim h.flips.items ≤ℤ allowed_of task.dim task.phase → length os < 64 → know b ≡ with_journal (waits (know a) os) entries → ((q : ℕ) → q ≢ 0 → slot b q ≡ slot a q) → shown ≡ h.flips.items → n ≡ length (know b).mine
-    → know c ≡ committed (know b) (record { round = round; worker = (know b).worker; seq = length (know b).mine; flips = shown }) k → Puts b c 0 none → Entered task round s c h n
-entered task s a b c h os entries shown round n k any of t allowed count won slots is number known puts =
+pub entered : (task : Task) (s : StartedTry) (a b c : Pass) (h : Hold) (os : List ℕ) (entries : List JournalEntry) (written : List Flip) (round n : ℕ) (k : ComplexView) → h.flips.items ≢ [] → IsStartOf task s → Turned s a h []
+    → changes task.dim h.flips.items ≤ℤ allowed_of task.dim task.phase → length os < 64 → know b ≡ with_journal (waits (know a) os) entries → ((q : ℕ) → q ≢ 0 → slot b q ≡ slot a q) → written ≡ h.flips.items → n ≡ length (know b).mine
+    → know c ≡ committed (know b) (record { round = round; worker = (know b).worker; seq = length (know b).mine; flips = written }) k → Puts b c 0 none → Entered task round s c h n
+entered task s a b c h os entries written round n k any of t allowed count won slots is number known puts =
     let old = t.going.try_now in
     let w : Waits (know a) (know b) old os s.earlier = waits_then (know a) (know b) old os s.earlier entries t.going.noting.tries won in
     let mine : (know b).mine ≡ s.mine = w.mine ∙ t.going.mine in
@@ -347,13 +335,23 @@ entered task s a b c h os entries shown round n k any of t allowed count won slo
         journal = let j : (waited old os).journal ≡ length os = waited_journal old os t.going.fresh.1 (omega (arith, count)) in omega (arith, count, j);
       };
       flips = sym flips;
-      settles = λ q x at.
-          let f : (y : VersionedStar) × (item (know a).items q ≡ some y) × (x ≡ flipped_home h.flips.items q y) = item_flipped h.flips.items (know a).items q x (ap (λ (l : List (ℕ × VersionedStar)). item l q) (sym items) ∙ at) in
-          let y = f.0 in
-          let low : 0 < q = (a.sees.stars q y f.1).0 in
-          let ne : q ≢ 0 = λ e. absurd (omega (arith, low, e)) in
-          let star : star_in t.now q ≡ x.star = star_now (know a).seen t.now h.flips.items q y t.made.replays (a.sees.stars q y f.1).1 ∙ ap (λ (z : VersionedStar). z.star) (sym f.2) in
-          (y.version, puts q ∙ (tested 0 q (λ e. cond e none (slot b q) ≡ slot b q) (λ e. absurd (ne (sym e))) (λ _. refl) ∙ (slots q ne ∙ (t.made.hosts q y f.1 ∙ ap (λ (u : VertexStar). some (Home (home u y.version))) star))), ap (λ (z : VersionedStar). z.version) f.2);
-      places = λ q held. t.made.places q (sym (has_flipped h.flips.items (know a).items q) ∙ (ap (λ (l : List (ℕ × VersionedStar)). has_item l q) (sym items) ∙ held));
+      settles = record {
+        held = record {
+          rising = t.made.held.rising;
+          each = λ q. t.made.held.each q ∙ (sym (has_flipped h.flips.items (know a).items q) ∙ ap (λ (l : List (ℕ × VersionedStar)). has_item l q) (sym items));
+        };
+        known = each_star_there (shown h.lent.items) t.made.stars (λ u there of.
+            let x = some_of (know c).items u.vertex (ap (λ (l : List (ℕ × VersionedStar)). has_item l u.vertex) items ∙ (has_flipped h.flips.items (know a).items u.vertex ∙ (sym (t.made.held.each u.vertex) ∙ there))) in
+            let f : (y : VersionedStar) × (item (know a).items u.vertex ≡ some y) × (x.0 ≡ flipped_home h.flips.items u.vertex y) = item_flipped h.flips.items (know a).items u.vertex x.0 (ap (λ (l : List (ℕ × VersionedStar)). item l u.vertex) (sym items) ∙ x.1) in
+            (x.0, x.1, is_star t.now u of ∙ (star_now (know a).seen t.now h.flips.items u.vertex f.0 t.made.replays (a.sees.stars u.vertex f.0 f.1).1 ∙ ap (λ (z : VersionedStar). z.star) (sym f.2))));
+        slots = λ q x at.
+            let f : (y : VersionedStar) × (item (know a).items q ≡ some y) × (x ≡ flipped_home h.flips.items q y) = item_flipped h.flips.items (know a).items q x (ap (λ (l : List (ℕ × VersionedStar)). item l q) (sym items) ∙ at) in
+            let y = f.0 in
+            let low : 0 < q = (a.sees.stars q y f.1).0 in
+            let ne : q ≢ 0 = λ e. absurd (omega (arith, low, e)) in
+            let o = t.made.slots q y f.1 in
+            let same : y.version ≡ o.1 = (let v = o.3 in omega (arith, v)) in
+            (o.0, o.1, puts q ∙ (tested 0 q (λ e. cond e none (slot b q) ≡ slot b q) (λ e. absurd (ne (sym e))) (λ _. refl) ∙ (slots q ne ∙ o.2)), ap (λ (z : VersionedStar). z.version) f.2 ∙ ap (λ (m : ℕ). m + cond (flips_touch q h.flips.items) 1 0) same);
+      };
       free = ap (λ (v : PassView). v.has_journal) known;
     }

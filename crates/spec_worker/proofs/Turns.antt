@@ -1,5 +1,5 @@
 -- A try before and after one turn.
-use Rattle.std.proofs.Common.{◌≡◌, ◌≢◌, ℕ, ◌+◌, ◌*◌, ◌≤◌, Bool, true, false, List, [], ◌∷◌, ◌++◌, length, append_assoc, length-append, Result, Ok, Err, if◌then◌else◌, sym, ◌∙◌, ap, refl, subst, arith}
+use Rattle.std.proofs.Common.{◌≡◌, ◌≢◌, ℕ, ◌+◌, ◌*◌, ◌<◌, ◌≤◌, Bool, true, false, List, [], ◌∷◌, ◌++◌, length, get_or, append_assoc, length-append, Result, Ok, Err, if◌then◌else◌, sym, ◌∙◌, ap, refl, subst, arith}
 use mathlib.Core.Option.{some}
 use Rattle.complex_core.specs.Labels.{has, union}
 use Rattle.complex_core.specs.Complexes.{ComplexView, is_held}
@@ -14,11 +14,12 @@ use Rattle.flip_rules.specs.declared.flip.Illegal.TheVariants.{BIsFace}
 use Rattle.flip_rules.proofs.Replays.{replay_then}
 use Rattle.star_laws.specs.Stars.{flips_touch, LabelsPass}
 use Rattle.star_laws.proofs.FlipStars.{star_flipped}
-use Rattle.stars.specs.StarViews.{VertexStar}
+use Rattle.stars.specs.StarViews.{VertexStar, KeptStar, vertices, shown, IsStarOf, AreStarsOf}
+use Rattle.stars.proofs.Finding.{each_at}
 use Rattle.board_rule.specs.Items.{item, has_item}
 use Rattle.board_rule.specs.Plays.{Sees}
 use Rattle.board_rule.specs.Views.{star_in}
-use Rattle.board_rule.specs.declared.data.VersionedStar.{VersionedStar}
+use Rattle.board_rule.specs.Homes.{VersionedStar}
 use Rattle.board_rule.specs.declared.view.PassView.{PassView}
 use Rattle.anneal_plan.specs.Fits.{FitsStar}
 use Rattle.anneal_plan.specs.Turns.{after_flip, after_flips}
@@ -29,7 +30,8 @@ use Rattle.held_stars.specs.Holding.{StartedTry, Noting, Going, Made, Restorable
 use Rattle.held_stars.specs.declared.hold.Hold.{Hold}
 use Rattle.held_stars.specs.declared.stopped.Stopped.{Stopped}
 use Rattle.held_stars.specs.declared.stopped.Stopped.TheVariants as stopped
-use Rattle.held_stars.proofs.MadeFlips.{union_touches, touch_one, touch_snoc, made_restorable}
+use Rattle.held_stars.proofs.LentStars.{is_star, each_kept}
+use Rattle.held_stars.proofs.MadeFlips.{union_touches, touch_one, touch_snoc}
 use Rattle.round_rules.specs.Own.{ReplaysOn}
 use Rattle.round_rules.specs.Tasks.{Task}
 use Rattle.round_rules.specs.declared.tried.Tried.{Tried}
@@ -60,6 +62,15 @@ home_dim s v sees g =
 pub next_shape : (s : StartedTry) (dim : ℕ) (pass : Pass) (h : Hold) (f : Flip) (next : List Flip) → IsNext s dim pass h f next → Shaped dim f.a f.b
 next_shape s dim pass h f next n = subst (λ (d : ℕ). Shaped d f.a f.b) (home_dim s (know pass) pass.sees n.turned.going ∙ n.dim_is) n.fits.shape
 
+-- the star that is lent at a place
+pub lent_star : (k : ComplexView) (lent near : List KeptStar) (at p : ℕ) (s : KeptStar) → AreStarsOf k (shown lent) → has (vertices (shown lent)) p ≡ true → near ≡ lent → (has (vertices (shown near)) p ≡ true → (at < length near) × ((other : KeptStar) → (get_or near at other).star.vertex ≡ p)) → s ≡ get_or lent at s
+    → s.star ≡ star_in k p
+lent_star k lent near at p s are held is there own =
+    let t : (at < length lent) × ((other : KeptStar) → (get_or lent at other).star.vertex ≡ p) =
+    subst (λ (l : List KeptStar). (at < length l) × ((other : KeptStar) → (get_or l at other).star.vertex ≡ p)) is (there (subst (λ (l : List KeptStar). has (vertices (shown l)) p ≡ true) (sym is) held)) in
+    let of : IsStarOf k (get_or lent at s).star = each_at (λ (u : KeptStar). IsStarOf k u.star) lent at s (each_kept (IsStarOf k) lent are.each) t.0 in
+    is_star k s.star (subst (λ (u : KeptStar). IsStarOf k u.star) (sym own) of) ∙ ap (star_in k) (ap (λ (u : KeptStar). u.star.vertex) own ∙ t.1 s)
+
 -- ---- a flip is made
 
 -- how a try stands once the labels of its next flip are held
@@ -72,14 +83,14 @@ pub record Claimed (s : StartedTry) (f : Flip) (next : List Flip) (pass : Pass) 
   pub labels : LabelsPass (has_item (know pass).items) (f ∷ [])
   pub free : List ℕ
   pub fits : FitsStar (after_flips s.home.star h.flips.items) free f
-  pub places : length h.places.items ≤ 9 + 8 * length h.flips.items
+  pub lent : length h.lent.items ≤ 9 + 8 * length h.flips.items
 
 -- the claims leave the flips and the star of the place
 pub claimed : (s : StartedTry) (dim : ℕ) (a b : Pass) (h n : Hold) (f : Flip) (next : List Flip) (labels : List ℕ) → IsNext s dim a h f next → labels ≡ union f.a f.b → length (union f.a f.b) ≤ 8 → n.flips.items ≡ h.flips.items
-    → length n.places.items ≤ length h.places.items + length labels → ((q : ℕ) → has labels q ≡ true → has_item (know b).items q ≡ true)
+    → length n.lent.items ≤ length h.lent.items + length labels → ((q : ℕ) → has labels q ≡ true → has_item (know b).items q ≡ true)
     → ((now : ComplexView) → Going s (know a) → ((q : ℕ) → has labels q ≡ true → flips_touch q s.flips ≡ true) → Made a h now → (m : ComplexView) × Going s (know b) × Made b n m × (star_in m s.place ≡ star_in now s.place))
     → Claimed s f next b n
-claimed s dim a b h n f next labels t is few flips places held claim = let r = claim t.turned.now t.turned.going (all_among s dim a h f next labels t is) t.turned.made in record {
+claimed s dim a b h n f next labels t is few flips lent held claim = let r = claim t.turned.now t.turned.going (all_among s dim a h f next labels t is) t.turned.made in record {
   going = r.1;
   now = r.0;
   made = r.2;
@@ -88,21 +99,19 @@ claimed s dim a b h n f next labels t is few flips places held claim = let r = c
   labels = λ q u. held q (union_touches labels f q is ∙ touched_one q f u);
   free = t.free;
   fits = subst (λ (fs : List Flip). FitsStar (after_flips s.home.star fs) t.free f) (sym flips) t.fits;
-  places = let p : length h.places.items ≤ 1 + 8 * length h.flips.items = t.turned.places in omega (arith, p, few, ap length is, places, ap length flips);
+  lent = let p : length h.lent.items ≤ 1 + 8 * length h.flips.items = t.turned.lent in omega (arith, p, few, ap length is, lent, ap length flips);
 }
 
 -- then the flip is made
-pub turned : (s : StartedTry) (a b : Pass) (h n : Hold) (f : Flip) (next : List Flip) (t : Claimed s f next a h) → know b ≡ know a → Made b n (flipped t.now f.a f.b) → n.flips.items ≡ h.flips.items ++ f ∷ [] → n.places.items ≡ h.places.items
-    → length n.copies.items ≤ 8 * length n.flips.items → Turned s b n next
-turned s a b h n f next t known made flips places copies = record {
-  going = subst (Going s) (sym known) t.going;
+pub turned : (s : StartedTry) (a : Pass) (h n : Hold) (f : Flip) (next : List Flip) (t : Claimed s f next a h) → Made a n (flipped t.now f.a f.b) → n.flips.items ≡ h.flips.items ++ f ∷ [] → length n.lent.items ≡ length h.lent.items → Turned s a n next
+turned s a h n f next t made flips lent = record {
+  going = t.going;
   now = flipped t.now f.a f.b;
   made = made;
   whole = t.whole ∙ sym (append_assoc h.flips.items (f ∷ []) next) ∙ ap (λ (fs : List Flip). fs ++ next) (sym flips);
   star = (λ i. record { vertex = s.place; dim = t.now.dim; rows = star_flipped t.now f.a f.b s.place i })
       ∙ ap (λ (x : VertexStar). after_flip x f) t.star ∙ after_more s.home.star h.flips.items f ∙ ap (after_flips s.home.star) (sym flips);
-  places = let p = t.places in omega (arith, p, ap length places, ap length flips, length-append h.flips.items (f ∷ []));
-  copies = copies;
+  lent = let p = t.lent in omega (arith, p, lent, ap length flips, length-append h.flips.items (f ∷ []));
 }
 
 -- ---- a try ends
@@ -114,7 +123,7 @@ ended_quit task s pass h rest a t is = subst (Ended task s pass h) (sym is) reco
   noting = t.going.noting;
   mine = t.going.mine;
   reason = (tt, tt);
-  restorable = made_restorable pass pass h t.now pass.sees t.made refl t.made.hosts;
+  restorable = (t.now, t.made);
 }
 
 pub ended_claim_quit : (task : Task) (s : StartedTry) (pass : Pass) (h : Hold) (reason : Stopped) → reason ≡ stopped.Quit → Ends s pass h reason → Ended task s pass h Quit
@@ -164,12 +173,12 @@ only_face s k free f x e is fits w =
     by false u = let c : Ok tt ≡ Err e = sym u ∙ w in cc
 
 -- B is a face
-pub ended_blocked : (task : Task) (s : StartedTry) (f : Flip) (next : List Flip) (a b : Pass) (h n : Hold) (e : Illegal) (fault : FlipFault) → (t : Claimed s f next a h) → s.dim ≡ task.dim → know b ≡ know a → fault ≡ fault_of.Illegal e → FlipRefused (broken_rule t.now f.a f.b) fault → Restorable b n → Ended task s b n (Blocked f)
+pub ended_blocked : (task : Task) (s : StartedTry) (f : Flip) (next : List Flip) (a : Pass) (h n : Hold) (e : Illegal) (fault : FlipFault) → (t : Claimed s f next a h) → s.dim ≡ task.dim → fault ≡ fault_of.Illegal e → FlipRefused (broken_rule t.now f.a f.b) fault → Restorable a n → Ended task s a n (Blocked f)
 unfolding replays_on
-ended_blocked task s f next a b h n e fault t is known illegal refused r = let w = subst (FlipRefused (broken_rule t.now f.a f.b)) illegal refused in record {
+ended_blocked task s f next a h n e fault t is illegal refused r = let w = subst (FlipRefused (broken_rule t.now f.a f.b)) illegal refused in record {
   try_now = t.going.try_now;
-  noting = subst (λ (v : PassView). Noting s v t.going.try_now) (sym known) t.going.noting;
-  mine = ap (λ (v : PassView). v.mine) known ∙ t.going.mine;
+  noting = t.going.noting;
+  mine = t.going.mine;
   reason = (
     record {
       front = h.flips.items;
@@ -200,15 +209,15 @@ none_broken (Ok u) fault is told = refl
 none_broken (Err e) fault is told = let c = told e refl in cc
 
 -- there wasn't enough memory for the flip, which is legal
-pub ended_memory : (task : Task) (s : StartedTry) (f : Flip) (next : List Flip) (a b : Pass) (h n : Hold) (fault : FlipFault) → (t : Claimed s f next a h) → s.dim ≡ task.dim → know b ≡ know a → fault ≡ fault_of.Memory
-    → ((e : Illegal) → broken_rule t.now f.a f.b ≡ Err e → failed fault ≡ Err (fault_of.Illegal e)) → Restorable b n → Ended task s b n NoMemory
+pub ended_memory : (task : Task) (s : StartedTry) (f : Flip) (next : List Flip) (a : Pass) (h n : Hold) (fault : FlipFault) → (t : Claimed s f next a h) → s.dim ≡ task.dim → fault ≡ fault_of.Memory
+    → ((e : Illegal) → broken_rule t.now f.a f.b ≡ Err e → failed fault ≡ Err (fault_of.Illegal e)) → Restorable a n → Ended task s a n NoMemory
 unfolding replays_on
-ended_memory task s f next a b h n fault t is known want told back =
+ended_memory task s f next a h n fault t is want told back =
     let before = replays_on s task.dim a h t.now t.going t.made is in
     record {
       try_now = t.going.try_now;
-      noting = subst (λ (v : PassView). Noting s v t.going.try_now) (sym known) t.going.noting;
-      mine = ap (λ (v : PassView). v.mine) known ∙ t.going.mine;
+      noting = t.going.noting;
+      mine = t.going.mine;
       reason = (
         record {
           front = h.flips.items ++ f ∷ [];

@@ -1,9 +1,8 @@
 -- A try while it runs.
 use Rattle.std.specs.Prelude.{◌≡◌, ℕ, ◌+◌, ◌*◌, ◌<◌, ◌≤◌, true, false, List, [], ◌∷◌, ◌++◌, length, ⊤}
-use Rattle.complex_core.specs.Labels.{has}
 use Rattle.complex_core.specs.Complexes.{ComplexView}
 use Rattle.flip_rules.specs.declared.flip.Flip.{Flip}
-use Rattle.board_rule.specs.Items.{has_item}
+use Rattle.stars.specs.StarViews.{shown}
 use Rattle.board_rule.specs.Tries.{Try}
 use Rattle.board_rule.specs.Views.{star_in}
 use Rattle.anneal_plan.specs.Fits.{FitsStar}
@@ -50,8 +49,7 @@ pub record Turned (s : StartedTry) (pass : Pass) (h : Hold) (rest : List Flip) :
   pub made : Made pass h now
   pub whole : s.flips ≡ h.flips.items ++ rest
   pub star : star_in now s.place ≡ after_flips s.home.star h.flips.items
-  pub places : length h.places.items ≤ 1 + 8 * length h.flips.items
-  pub copies : length h.copies.items ≤ 8 * length h.flips.items
+  pub lent : length h.lent.items ≤ 1 + 8 * length h.flips.items
 
 -- this flip is to be made next: it fits the star as the flips before it have left it
 pub record IsNext (s : StartedTry) (dim : ℕ) (pass : Pass) (h : Hold) (f : Flip) (next : List Flip) : Type 0 where
@@ -64,7 +62,7 @@ pub record IsNext (s : StartedTry) (dim : ℕ) (pass : Pass) (h : Hold) (f : Fli
 abbrev pub Cause : Task → StartedTry → Try → Tried → Type 0
 Cause task s t a = Row (ReplaysOn task.dim t.note) (BlockedOn task.dim t.note) (λ n flips. ⊥) task (mark_of t) s.flips a × OtherRefused s.worker a
 
--- it ended without an entry, and the stars that it holds can be put back as they came
+-- it ended without an entry, and the flips that it made can be taken back
 pub record Ended (task : Task) (s : StartedTry) (pass : Pass) (h : Hold) (a : Tried) : Type 0 where
   pub try_now : Try
   pub noting : Noting s (know pass) try_now
@@ -72,12 +70,11 @@ pub record Ended (task : Task) (s : StartedTry) (pass : Pass) (h : Hold) (a : Tr
   pub reason : Cause task s try_now a
   pub restorable : Restorable pass h
 
--- its flips were committed as the entry with this number, and the stars that it holds are known as they are now, but for their versions
+-- its flips were committed as the entry with this number, and the stars that are lent are known as they are now, but for their versions
 pub record Entered (task : Task) (round : ℕ) (s : StartedTry) (pass : Pass) (h : Hold) (n : ℕ) : Type 0 where
   pub try_now : Try
   pub noting : Noting s (know pass) try_now
   pub row : CommittedRow (EntersNext round s.worker s.mine (know pass).mine n s.flips) task (mark_of try_now) s.flips
   pub flips : h.flips.items ≡ s.flips
-  pub settles : Settles pass h.flips.items
-  pub places : (q : ℕ) → has_item (know pass).items q ≡ true → has h.places.items q ≡ true
+  pub settles : Settles pass h.flips.items (shown h.lent.items)
   pub free : (know pass).has_journal ≡ false

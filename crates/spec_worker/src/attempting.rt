@@ -3,13 +3,14 @@
 ghost use Rattle.std.specs.Prelude.{◌≡◌, ◌≤◌, ◌<◌, ◌∷◌, [], ◌+◌, IfErr, IfOk, OnOk, length, ◌≤ℤ◌, ◌<ℤ◌};
 ghost use mathlib.Core.Option.{some};
 ghost use Rattle.complex_core.specs.Complexes.{ComplexView};
+ghost use Rattle.stars.specs.StarViews.{VertexStar};
 ghost use Rattle.anneal_plan.specs.Proposals.{allowed_of};
 ghost use Rattle.board_rule.specs.Plays.{IsRefused};
 ghost use Rattle.board_rule.specs.Tries.{Try};
-ghost use Rattle.board_rule.specs.declared.data.VersionedStar.{VersionedStar};
-ghost use Rattle.board_rule.specs.Views.{Empty, opened_by, lost_by};
+ghost use Rattle.board_rule.specs.Homes.{VersionedStar};
+ghost use Rattle.board_rule.specs.Views.{Empty, home, opened_by, lost_by};
 ghost use Rattle.vertex_claims.specs.Passes.{IsOf, IsSame, know, slot, places_on, start_of, round_of, marks_left};
-ghost use Rattle.held_stars.specs.Holding.{StartedTry, Roomy};
+ghost use Rattle.held_stars.specs.Holding.{Lends, StartedTry, Roomy};
 ghost use Rattle.held_stars.specs.Gates.{Follows, Keeps, fails, noted_in};
 ghost use Rattle.round_rules.specs.Tasks.{Task, changes};
 ghost use Rattle.round_rules.specs.Own.{OwnTry};
@@ -112,7 +113,7 @@ fn explore<G: Gate>(
     conclude(board, pass, hold, gate, dim, try_plan)
 }
 
-// Claims the place where a try begins.
+// Claims the place where a try begins, and lends its star.
 fn begin_at(board: &Board, pass: &mut Pass, hold: &mut Hold, place: u16) -> Result<(), Claimed>
     requires board { IsOf pass.old board.now }
     requires place { (0 < place) × (place ≤ places_on board.now) }
@@ -120,16 +121,16 @@ fn begin_at(board: &Board, pass: &mut Pass, hold: &mut Hold, place: u16) -> Resu
     requires room { Roomy hold.old × (0 < marks_left pass.old) }
     ensures same { IsSame pass.old pass.new }
     ensures room { Roomy hold.new }
-    ensures won { OnOk result ((x : VersionedStar) × (k : ComplexView) × (know pass.new ≡ opened_by (know pass.old) place x k) × (slot pass.new place ≡ some (Slot.Home x))) }
-    ensures hold { OnOk result ((hold.new.places.items ≡ place ∷ []) × (hold.new.flips.items ≡ []) × (hold.new.copies.items ≡ []) × (hold.new.lent.items ≡ [])) }
+    ensures won { OnOk result ((x : VersionedStar) × (k : ComplexView) × (s : VertexStar) × (know pass.new ≡ opened_by (know pass.old) place x k) × (slot pass.new place ≡ some (Slot.Home (home s x.version))) × Lends [] hold.new.lent.items x.star) }
+    ensures flips { OnOk result (hold.new.flips.items ≡ []) }
     ensures lost { IfErr result (λ c. (c.place ≡ place) × IsRefused (know pass.old).worker c.owner × (know pass.new ≡ lost_by (know pass.old) place c.owner)) }
 {
     pass.first_claim(board, place)?;
-    hold.begin(place);
+    hold.begin(board, pass, place);
     Ok(())
 }
 
-// Puts the stars back where nothing was committed, gives all places back, and answers the try.
+// Takes the flips back where nothing was committed, gives all places back, and answers the try.
 fn finish<G: Gate>(
     board: &Board,
     pass: &mut Pass,
@@ -151,13 +152,13 @@ fn finish<G: Gate>(
 {
     match made {
         Ok(seq) => {
-            give_up(board, pass, &mut hold.places, &hold.flips);
+            give_up(board, pass, &mut hold.lent, &hold.flips);
             gate.committed();
             Tried::Committed(seq)
         }
         Err(answer) => {
-            roll_back(board, pass, hold);
-            give_up(board, pass, &mut hold.places, &[]);
+            roll_back(hold);
+            give_up(board, pass, &mut hold.lent, &[]);
             answer
         }
     }

@@ -1,14 +1,16 @@
 //! The turns of a try: in each a flip is proposed, and made on the stars of its labels.
 
-ghost use Rattle.std.specs.Prelude.{◌≡◌, ◌<◌, ◌≤◌, ◌+◌, ◌++◌, ◌∷◌, [], ℕ, List, true, IfSome, IfErr, OnOk, pos, ◌≤ℤ◌, negsuc, length};
+ghost use Rattle.std.specs.Prelude.{◌≡◌, ◌<◌, ◌≤◌, ◌+◌, ◌++◌, ◌∷◌, [], ℕ, List, true, IfSome, IfErr, OnOk, pos, ◌≤ℤ◌, negsuc, length, vec_capacity};
 ghost use Rattle.std.specs.List.{AllByRecursion};
-ghost use mathlib.Core.Option.{some};
+ghost use Rattle.complex_core.specs.Labels.{has};
+ghost use Rattle.complex_core.specs.Complexes.{ComplexView};
 ghost use Rattle.flip_rules.specs.declared.flip.Flip.{Flip as FlipOf};
 ghost use Rattle.star_laws.specs.Stars.{flips_touch};
+ghost use Rattle.stars.specs.StarViews.{vertices, shown, AreStarsOf};
 ghost use Rattle.anneal_plan.specs.Fits.{FitsStar};
 ghost use Rattle.anneal_plan.specs.Proposals.{proposal_of};
-ghost use Rattle.board_rule.specs.declared.data.VersionedStar.{VersionedStar};
-ghost use Rattle.vertex_claims.specs.Passes.{IsOf, IsSame, SameSlots, know, slot, spare, places_on};
+ghost use Rattle.board_rule.specs.Views.{star_in};
+ghost use Rattle.vertex_claims.specs.Passes.{IsOf, IsSame, know, places_on};
 ghost use Rattle.held_stars.specs.Holding.{StartedTry, Roomy};
 ghost use Rattle.held_stars.specs.Gates.{Follows, Keeps, after_asked, fails, noted_in};
 ghost use Rattle.round_rules.specs.Tasks.{Task, change, changes};
@@ -16,10 +18,10 @@ ghost use Rattle.spec_worker.specs.Trying.{IsFit, IsTold, IsStartOf, Turned, IsN
 ghost use Rattle.spec_worker.specs.Hearing.{is_quit};
 
 use anneal_plan::{Phase, find_candidates, proposal};
-use board_rule::{Slot, VersionedStar};
 use flip_rules::{Flip, FlipFault};
-use held_stars::{Gate, Hold, Point, Stopped, claim_labels, make_flip};
+use held_stars::{Gate, Hold, Point, Stopped, claim_labels, make_flip, place_among};
 use round_rules::Tried;
+use stars::Star;
 use std::alloc::Global;
 use vertex_claims::{Board, Pass};
 
@@ -48,28 +50,21 @@ pub(crate) fn ask<G: Gate>(gate: &mut G, point: Point) -> Result<(), Tried>
     }
 }
 
-// Proposes the flip of a turn at a place that is held. The star keeps the candidates that it knows then.
-fn propose(
-    board: &Board,
-    pass: &mut Pass,
-    alloc: Global,
-    try_plan: &TryPlan<'_>,
-    turn: u32,
-) -> Option<Flip>
-    requires board { IsOf pass.old board.now }
-    requires star { (x : VersionedStar) × (slot pass.old try_plan.now.place ≡ some (Slot.Home x)) × (1 ≤ x.star.dim) }
+// Proposes the flip of a turn at a place whose star is lent. The star keeps the candidates that it knows
+// then.
+fn propose(lent: &mut Vec<Star>, alloc: Global, try_plan: &TryPlan<'_>, turn: u32) -> Option<Flip>
+    requires star { (k : ComplexView) × AreStarsOf k (shown lent.old.items) × (1 ≤ k.dim) }
+    requires held { has (vertices (shown lent.old.items)) try_plan.now.place ≡ true }
     requires turn { turn ≤ 3 }
     requires free { AllByRecursion (λ x. 0 < x) try_plan.now.free.now }
-    ensures same { IsSame pass.old pass.new }
-    ensures known { (know pass.new ≡ know pass.old) × (spare pass.new ≡ spare pass.old) × SameSlots pass.old pass.new }
-    ensures proposal { (x : VersionedStar) → slot pass.old try_plan.now.place ≡ some (Slot.Home x) → result ≡ proposal_of x.star try_plan.now.phase try_plan.now.words.now turn try_plan.now.free.now }
-    ensures fits { (x : VersionedStar) → slot pass.old try_plan.now.place ≡ some (Slot.Home x) → IfSome result (FitsStar x.star try_plan.now.free.now) }
+    ensures lent { (lent.new.items ≡ lent.old.items) × (vec_capacity lent.new ≡ vec_capacity lent.old) }
+    ensures proposal { (k : ComplexView) → AreStarsOf k (shown lent.old.items) → result ≡ proposal_of (star_in k try_plan.now.place) try_plan.now.phase try_plan.now.words.now turn try_plan.now.free.now }
+    ensures fits { (k : ComplexView) → AreStarsOf k (shown lent.old.items) → IfSome result (FitsStar (star_in k try_plan.now.place) try_plan.now.free.now) }
 {
-    let VersionedStar { mut star, version } = pass.take_star(board, try_plan.place);
-    find_candidates(alloc, &mut star, try_plan.phase, try_plan.words);
-    let flip = proposal(&star, try_plan.phase, try_plan.words, turn, try_plan.free);
-    pass.put_star(board, try_plan.place, VersionedStar { star, version });
-    flip
+    let at = place_among(lent, try_plan.place);
+    let star = &mut lent[at];
+    find_candidates(alloc, star, try_plan.phase, try_plan.words);
+    proposal(star, try_plan.phase, try_plan.words, turn, try_plan.free)
 }
 
 // Claims the labels of a flip, and makes it.
@@ -77,7 +72,6 @@ fn take_turn<G: Gate>(
     board: &Board,
     pass: &mut Pass,
     hold: &mut Hold,
-    alloc: Global,
     gate: &mut G,
     dim: u32,
     flip: &Flip,
@@ -106,7 +100,7 @@ fn take_turn<G: Gate>(
         Err(Stopped::Busy { place, owner }) => return Err(Tried::Busy { place, owner }),
         Err(Stopped::Quit) => return Err(Tried::Quit),
     }
-    match make_flip(board, pass, hold, alloc, dim, flip) {
+    match make_flip(hold, flip) {
         Ok(()) => ask(gate, Point::Flipped),
         Err(FlipFault::Illegal(_)) => Err(Tried::Blocked(*flip)),
         Err(FlipFault::Memory) => Err(Tried::NoMemory),
@@ -139,10 +133,10 @@ pub(crate) fn make_turns<G: Gate>(
     ensures heard { Follows (G.heard gate.old) (G.heard gate.new) (Keeps (fails is_quit result) (noted_in (know pass.old).tries) (noted_in (know pass.new).tries) (length hold.old.flips.items) (length hold.new.flips.items)) }
 {
     for turn in 0..try_plan.count {
-        let Some(flip) = propose(board, pass, alloc, try_plan, turn) else {
+        let Some(flip) = propose(&mut hold.lent, alloc, try_plan, turn) else {
             return Ok(());
         };
-        if let Err(answer) = take_turn(board, pass, hold, alloc, gate, dim, &flip) {
+        if let Err(answer) = take_turn(board, pass, hold, gate, dim, &flip) {
             return Err(answer);
         }
     }

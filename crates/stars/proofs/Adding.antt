@@ -9,9 +9,9 @@ use Rattle.complex_core.specs.Labels.{IsFace, has}
 use Rattle.complex_core.proofs.Sets.{above_head, above_tail}
 use Rattle.complex_core.proofs.Faces.{less_cmp}
 use Rattle.complex_core.proofs.Laws.{nat_eq_is, nat_eq_same, or_right}
-use Rattle.stars.specs.StarViews.{VertexStar, IsStar}
+use Rattle.stars.specs.StarViews.{VertexStar, KeptStar, IsStar, shown}
 use Rattle.stars.specs.Building.{with_row, with_rows, CanAdd}
-use Rattle.stars.proofs.Finding.{each_at}
+use Rattle.stars.proofs.Finding.{each_at, length-shown}
 use Rattle.complex_core.proofs.Booleans.{or_none}
 use Rattle.complex_core.proofs.Members.{has_place, has_snoc}
 
@@ -48,8 +48,11 @@ at_label old f labels j can face e l =
       fresh = not_before f j (above_tail nat_cmp 0 f face.rising) inside;
     })
 
-pub length-with : (labels f : List ℕ) (old : List VertexStar) → length (with_rows labels f old) ≡ length old
+length-with : (labels f : List ℕ) (old : List VertexStar) → length (with_rows labels f old) ≡ length old
 length-with labels f old = length-map old (λ s. if has labels s.vertex then with_row f s else s)
+
+pub label_inside : (old : List VertexStar) (now : List KeptStar) (f labels : List ℕ) (j : ℕ) → AtLabel old f labels j → shown now ≡ with_rows (take j labels) f old → get_or labels j 0 - 1 < length now
+label_inside old now f labels j at e = omega (arith, at.high, length-shown now, ap length e, length-with (take j labels) f old)
 
 with_at : (labels f : List ℕ) (old : List VertexStar) (i : ℕ) (d : VertexStar) → i < length old → get_or (with_rows labels f old) i d ≡ (if has labels (get_or old i d).vertex then with_row f (get_or old i d) else get_or old i d)
 with_at labels f old i d l = get_or-map (λ s. if has labels s.vertex then with_row f s else s) old i d d l

@@ -8,7 +8,7 @@ use Rattle.complex_core.specs.Labels.{has, holds}
 use Rattle.complex_core.specs.Complexes.{ComplexView}
 use Rattle.complex_core.proofs.Laws.{listed, passes_listed, each_listed, each_has}
 use Rattle.flip_rules.specs.declared.flip.Flip.{Flip}
-use Rattle.stars.specs.StarViews.{VertexStar, StarList, UsesUpTo, vertices, places_in, HasLabels, OnPlaces}
+use Rattle.stars.specs.StarViews.{KeptStar, StarList, shown, UsesUpTo, vertices, places_in, HasLabels, OnPlaces}
 use Rattle.stars.proofs.Mapping.{uses_of, uses_from, has_bound}
 use Rattle.std.proofs.lemmas.Bool.{le-leb}
 
@@ -50,21 +50,21 @@ places_first m f n s e es h = (
 )
 
 -- a star of a label, among the stars and among the vertices
-pub star_there : (near : List VertexStar) (x : ℕ) → list_any (λ s. nat_eq s.vertex x) near ≡ has (vertices near) x
+pub star_there : (near : List KeptStar) (x : ℕ) → list_any (λ s. nat_eq s.star.vertex x) near ≡ has (vertices (shown near)) x
 star_there [] x = refl
-star_there (s ∷ near) x = ap (λ b. nat_eq s.vertex x || b) (star_there near x)
+star_there (s ∷ near) x = ap (λ b. nat_eq s.star.vertex x || b) (star_there near x)
 
-stars_there : (near : List VertexStar) (xs : List ℕ) → list_all (λ x. list_any (λ s. nat_eq s.vertex x) near) xs ≡ holds (vertices near) xs
+stars_there : (near : List KeptStar) (xs : List ℕ) → list_all (λ x. list_any (λ s. nat_eq s.star.vertex x) near) xs ≡ holds (vertices (shown near)) xs
 stars_there near [] = refl
 stars_there near (x ∷ xs) = λ i. star_there near x i && stars_there near xs i
 
-pub labels_both : (near : List VertexStar) (f : Flip) (s t : Bool) → s ≡ list_all (λ x. list_any (λ r. nat_eq r.vertex x) near) f.a → t ≡ list_all (λ x. list_any (λ r. nat_eq r.vertex x) near) f.b → s ≡ true → (IsTrue t → HasLabels near f) × (HasLabels near f → IsTrue t)
+pub labels_both : (near : List KeptStar) (f : Flip) (s t : Bool) → s ≡ list_all (λ x. list_any (λ r. nat_eq r.star.vertex x) near) f.a → t ≡ list_all (λ x. list_any (λ r. nat_eq r.star.vertex x) near) f.b → s ≡ true → (IsTrue t → HasLabels (shown near) f) × (HasLabels (shown near) f → IsTrue t)
 labels_both near f s t es et h = (
   λ g. record { first = sym (stars_there near f.a) ∙ sym es ∙ h; second = sym (stars_there near f.b) ∙ sym et ∙ g },
   λ g. et ∙ stars_there near f.b ∙ g.second,
 )
 
-pub labels_first : (near : List VertexStar) (f : Flip) (s : Bool) → s ≡ list_all (λ x. list_any (λ r. nat_eq r.vertex x) near) f.a → s ≡ false → (IsTrue s → HasLabels near f) × (HasLabels near f → IsTrue s)
+pub labels_first : (near : List KeptStar) (f : Flip) (s : Bool) → s ≡ list_all (λ x. list_any (λ r. nat_eq r.star.vertex x) near) f.a → s ≡ false → (IsTrue s → HasLabels (shown near) f) × (HasLabels (shown near) f → IsTrue s)
 labels_first near f s es h = (
   λ g. let c : true ≡ false = sym g ∙ h in cc,
   λ g. es ∙ stars_there near f.a ∙ g.first,

@@ -1,5 +1,5 @@
--- The stars of some labels changed one after another, each emptied until those after it are changed.
-use Rattle.std.proofs.Common.{◌≡◌, ◌≢◌, ℕ, ◌<◌, true, false, cond, not, nat_eq, if◌then◌else◌, ◌||◌, ◌&&◌, List, [], ◌∷◌, ◌++◌, length, map, get_or, set, sym, ◌∙◌, ap, refl, subst, arith, eq-eqb}
+-- The stars of some labels changed one after another.
+use Rattle.std.proofs.Common.{◌≡◌, ◌≢◌, ℕ, ◌<◌, ◌≤◌, true, false, cond, not, nat_eq, if◌then◌else◌, ◌||◌, ◌&&◌, List, [], ◌∷◌, ◌++◌, length, map, get_or, set, sym, ◌∙◌, ap, refl, subst, arith, eq-eqb}
 use Rattle.std.specs.List.{AllByRecursion}
 use Rattle.std.specs.List.Sorted.{IsStrictlySortedBy}
 use Rattle.std.specs.Ordering.{nat_cmp}
@@ -7,49 +7,38 @@ use Rattle.std.specs.Cmp.{first_so, second_so}
 use Rattle.std.specs.Cmp.Lexicographic.{nat_list_cmp_total}
 use Rattle.std.proofs.Math.Seq.{map-set_same}
 use Rattle.std.proofs.lemmas.Bool.{true≢false, ne_eqb}
-use Rattle.std.proofs.lemmas.List.{same_lists, get_or-map, length-map, length-set, get_or-set_same, get_or-set_other, get_or_default, set-set, set-get_or}
+use Rattle.std.proofs.lemmas.List.{same_lists, get_or-map, length-map, length-set, map-set, get_or-set_same, get_or-set_other, get_or_default}
 use Rattle.complex_core.specs.Labels.{IsRising, has, holds, face_cmp}
 use Rattle.complex_core.specs.Rising.{rising}
 use Rattle.complex_core.specs.Complexes.{IsFacet, staying, is_facet}
 use Rattle.complex_core.proofs.Sets.{above_head, above_tail, each_rising, sorted_rising}
 use Rattle.complex_core.proofs.Sorting.{each_append, each_filter}
-use Rattle.complex_core.proofs.Laws.{above_not, nat_eq_is, or_left}
+use Rattle.complex_core.proofs.Laws.{above_not, nat_eq_is, or_left, or_right}
 use Rattle.star_laws.specs.Stars.{star}
-use Rattle.stars.specs.StarViews.{VertexStar, IsStar, vertices}
-use Rattle.stars.specs.Changes.{star_changed, stars_changed, CanChange, IsWithin}
-use Rattle.stars.specs.CandidateLists.{ChangedWithin}
-use Rattle.stars.proofs.Staying.{changed_within}
-use Rattle.stars.proofs.Finding.{one_place, each_at}
+use Rattle.stars.specs.StarViews.{VertexStar, KeptStar, IsStar, shown, rooms, vertices}
+use Rattle.stars.specs.Changes.{star_changed, stars_changed, CanChange, HasRoom}
+use Rattle.stars.proofs.Finding.{one_place, each_at, shown_at, length-shown}
 
-abbrev pub emptied : VertexStar → VertexStar
-emptied s = record s { rows = [] }
+-- the star of the first label is changed
+pub changed_vertices : (near : List VertexStar) (i : ℕ) (s : VertexStar) (out more : List (List ℕ)) → s ≡ get_or near i s → vertices (set near i (star_changed out more s)) ≡ vertices near
+changed_vertices near i s out more es = map-set_same (λ (t : VertexStar). t.vertex) near i (star_changed out more s) s (ap (λ (t : VertexStar). t.vertex) es)
 
--- put back as it was
-pub set_back : (near last : List VertexStar) (i : ℕ) (s v w u : VertexStar) (rows : List (List ℕ)) → i < length near → s ≡ get_or near i s → v ≡ emptied s → last ≡ set near i v → w ≡ get_or last i w → rows ≡ s.rows → u ≡ record w { rows = rows } → set last i u ≡ near
-set_back near last i s v w u rows l es ev el ew er eu =
-    let a : w ≡ v = ew ∙ ap (λ xs. get_or xs i w) el ∙ get_or-set_same near i v w l in
-    let b : u ≡ s = eu ∙ (λ j. record (a j) { rows = er j }) ∙ ap (λ (t : VertexStar). record t { rows = s.rows }) ev in
-    ap (λ xs. set xs i u) el ∙ set-set near i v u ∙ ap (λ t. set near i t) (b ∙ es) ∙ set-get_or near i s
+changed_dims : (near : List VertexStar) (i : ℕ) (s : VertexStar) (out more : List (List ℕ)) → s ≡ get_or near i s → map (λ (t : VertexStar). t.dim) (set near i (star_changed out more s)) ≡ map (λ (t : VertexStar). t.dim) near
+changed_dims near i s out more es = map-set_same (λ (t : VertexStar). t.dim) near i (star_changed out more s) s (ap (λ (t : VertexStar). t.dim) es)
 
-vertices_kept : (near : List VertexStar) (i : ℕ) (s v : VertexStar) → s ≡ get_or near i s → v ≡ emptied s → vertices (set near i v) ≡ vertices near
-vertices_kept near i s v es ev = map-set_same (λ (t : VertexStar). t.vertex) near i v s (ap (λ (t : VertexStar). t.vertex) (ev ∙ ap emptied es))
-
-dims_kept : (near : List VertexStar) (i : ℕ) (s v : VertexStar) → s ≡ get_or near i s → v ≡ emptied s → map (λ (t : VertexStar). t.dim) (set near i v) ≡ map (λ (t : VertexStar). t.dim) near
-dims_kept near i s v es ev = map-set_same (λ (t : VertexStar). t.dim) near i v s (ap (λ (t : VertexStar). t.dim) (ev ∙ ap emptied es))
-
--- the other labels, with the first one's star emptied
-pub lent_can : (near : List VertexStar) (i x : ℕ) (s v : VertexStar) (labels others : List ℕ) (more : List (List ℕ)) → CanChange near labels more → labels ≡ x ∷ others → s ≡ get_or near i s → v ≡ emptied s → CanChange (set near i v) others more
-lent_can near i x s v labels others more can e es ev =
+-- then the others can be changed
+others_can : (near : List VertexStar) (i x : ℕ) (s : VertexStar) (labels others : List ℕ) (out more : List (List ℕ)) → CanChange near labels more → labels ≡ x ∷ others → s ≡ get_or near i s → CanChange (set near i (star_changed out more s)) others more
+others_can near i x s labels others out more can e es =
     let P : List ℕ → Type 0 = λ vs. IsRising vs in
     let Q : List ℕ → Type 0 = λ xs. IsStrictlySortedBy nat_cmp xs in
     let D : List ℕ → Type 0 = λ ds. AllByRecursion (λ d. AllByRecursion (IsFacet d) more) ds in
-    let vs : vertices (set near i v) ≡ vertices near = vertices_kept near i s v es ev in
+    let vs : vertices (set near i (star_changed out more s)) ≡ vertices near = changed_vertices near i s out more es in
     record {
       rising = subst P (sym vs) can.rising;
       labels_rise = above_tail nat_cmp x others (subst Q e can.labels_rise);
       held = ap (λ ys. holds ys others) vs ∙ second_so (has (vertices near) x) (holds (vertices near) others) (ap (holds (vertices near)) (sym e) ∙ can.held);
       few = can.few;
-      pure = subst D (sym (dims_kept near i s v es ev)) can.pure;
+      pure = subst D (sym (changed_dims near i s out more es)) can.pure;
     }
 
 pub first_held : (near : List VertexStar) (x : ℕ) (labels others : List ℕ) (more : List (List ℕ)) → CanChange near labels more → labels ≡ x ∷ others → has (vertices near) x ≡ true
@@ -62,22 +51,11 @@ not_again near x labels others more can e = let Q : List ℕ → Type 0 = λ xs.
 abbrev changed_if : List ℕ → List (List ℕ) → List (List ℕ) → VertexStar → VertexStar
 changed_if labels out more s = if has labels s.vertex then star_changed out more s else s
 
-length-changed : (near : List VertexStar) (labels : List ℕ) (out more : List (List ℕ)) → length (stars_changed near labels out more) ≡ length near
+pub length-changed : (near : List VertexStar) (labels : List ℕ) (out more : List (List ℕ)) → length (stars_changed near labels out more) ≡ length near
 length-changed near labels out more = length-map near (changed_if labels out more)
 
-changed_at : (near : List VertexStar) (labels : List ℕ) (out more : List (List ℕ)) (i : ℕ) (d : VertexStar) → i < length near → get_or (stars_changed near labels out more) i d ≡ changed_if labels out more (get_or near i d)
+pub changed_at : (near : List VertexStar) (labels : List ℕ) (out more : List (List ℕ)) (i : ℕ) (d : VertexStar) → i < length near → get_or (stars_changed near labels out more) i d ≡ changed_if labels out more (get_or near i d)
 changed_at near labels out more i d l = get_or-map (changed_if labels out more) near i d d l
-
--- the emptied star is still so after the others are changed
-pub still_lent : (near last : List VertexStar) (i x : ℕ) (s v w : VertexStar) (others : List ℕ) (out more : List (List ℕ)) → i < length near → s.vertex ≡ x → v ≡ emptied s → has others x ≡ false → last ≡ stars_changed (set near i v) others out more → w ≡ get_or last i w → w ≡ v
-still_lent near last i x s v w others out more l ex ev n el ew =
-    let inside : i < length (set near i v) = omega (arith, l, length-set near i v) in
-    let same : get_or (set near i v) i w ≡ v = get_or-set_same near i v w l in
-    let vx : v.vertex ≡ x = ap (λ (t : VertexStar). t.vertex) ev ∙ ex in
-    ew ∙ ap (λ xs. get_or xs i w) el
-    ∙ changed_at (set near i v) others out more i w inside
-    ∙ ap (changed_if others out more) same
-    ∙ ap (λ b. cond b (star_changed out more v) v) (ap (has others) vx ∙ n)
 
 pub star_held : (fs : List (List ℕ)) (x : ℕ) → AllByRecursion (λ f. has f x ≡ true) (star fs x)
 star_held [] x = tt
@@ -87,68 +65,57 @@ star_held (f ∷ fs) x =
       | false ↦ λ _. star_held fs x
     ] refl
 
--- the star as its rows become
-pub changed_here : (s v w : VertexStar) (x : ℕ) (rows out more : List (List ℕ)) → s.vertex ≡ x → v ≡ emptied s → w ≡ v → rows ≡ rising face_cmp (staying s.rows out ++ star more x) → star_changed out more s ≡ record w { rows = rows }
-changed_here s v w x rows out more ex ev ew er = (λ j. record s { rows = rising face_cmp (staying s.rows out ++ star more (ex j)) }) ∙ (λ j. record (sym (ew ∙ ev) j) { rows = sym er j })
-
--- it changed within these labels
-pub changed_so : (s v w : VertexStar) (x : ℕ) (labels : List ℕ) (rows out more : List (List ℕ)) → IsStar s → IsWithin labels out more → s.vertex ≡ x → v ≡ emptied s → w ≡ v → rows ≡ rising face_cmp (staying s.rows out ++ star more x) → ChangedWithin labels s (record w { rows = rows })
-changed_so s v w x labels rows out more h within ex ev ew er = subst (ChangedWithin labels s) (changed_here s v w x rows out more ex ev ew er) (changed_within s labels out more h within.gone within.come)
-
 -- what the rows become is a star
-pub changed_is_star : (s v w : VertexStar) (x : ℕ) (rows out more : List (List ℕ)) → IsStar s → s.vertex ≡ x → v ≡ emptied s → w ≡ v → AllByRecursion (IsFacet s.dim) more → rows ≡ rising face_cmp (staying s.rows out ++ star more x) → IsStar (record w { rows = rows })
-changed_is_star s v w x rows out more h ex ev ew pure er =
-    let e : star_changed out more s ≡ record w { rows = rows } = changed_here s v w x rows out more ex ev ew er in
-    let P : VertexStar → Type 0 = λ t. IsStar t in
-    subst P e (record {
-      vertex = h.vertex;
-      low = h.low;
-      rising = sorted_rising nat_list_cmp_total (staying s.rows out ++ star more s.vertex);
-      pure = each_rising face_cmp (IsFacet s.dim) (staying s.rows out ++ star more s.vertex) (each_append (IsFacet s.dim) (staying s.rows out) (star more s.vertex) (each_filter (IsFacet s.dim) (λ f. not (is_facet out f)) s.rows h.pure) (each_filter (IsFacet s.dim) (λ f. holds f (s.vertex ∷ [])) more pure));
-      held = each_rising face_cmp (λ f. has f s.vertex ≡ true) (staying s.rows out ++ star more s.vertex) (each_append (λ f. has f s.vertex ≡ true) (staying s.rows out) (star more s.vertex) (each_filter (λ f. has f s.vertex ≡ true) (λ f. not (is_facet out f)) s.rows h.held) (star_held more s.vertex));
-    })
+pub changed_is_star : (s : VertexStar) (out more : List (List ℕ)) → IsStar s → AllByRecursion (IsFacet s.dim) more → IsStar (star_changed out more s)
+changed_is_star s out more h pure = record {
+  vertex = h.vertex;
+  low = h.low;
+  rising = sorted_rising nat_list_cmp_total (staying s.rows out ++ star more s.vertex);
+  pure = each_rising face_cmp (IsFacet s.dim) (staying s.rows out ++ star more s.vertex) (each_append (IsFacet s.dim) (staying s.rows out) (star more s.vertex) (each_filter (IsFacet s.dim) (λ f. not (is_facet out f)) s.rows h.pure) (each_filter (IsFacet s.dim) (λ f. holds f (s.vertex ∷ [])) more pure));
+  held = each_rising face_cmp (λ f. has f s.vertex ≡ true) (staying s.rows out ++ star more s.vertex) (each_append (λ f. has f s.vertex ≡ true) (staying s.rows out) (star more s.vertex) (each_filter (λ f. has f s.vertex ≡ true) (λ f. not (is_facet out f)) s.rows h.held) (star_held more s.vertex));
+}
 
--- the first label's star is put back changed, after the others
-pub changed_step : (near last : List VertexStar) (i x : ℕ) (s v w u : VertexStar) (labels others : List ℕ) (rows out more : List (List ℕ)) → CanChange near labels more → labels ≡ x ∷ others → i < length near → s ≡ get_or near i s → s.vertex ≡ x → v ≡ emptied s → last ≡ stars_changed (set near i v) others out more → w ≡ get_or last i w → rows ≡ rising face_cmp (staying s.rows out ++ star more x) → u ≡ record w { rows = rows } → set last i u ≡ stars_changed near labels out more
-changed_step near last i x s v w u labels others rows out more can el l es ex ev ea ew er eu =
-    same_lists (set last i u) (stars_changed near labels out more) long each
+-- the star as its rows become
+pub changed_whole : (old : VertexStar) (rows taken here out more : List (List ℕ)) → rows ≡ rising face_cmp (taken ++ here) → taken ≡ staying old.rows out → here ≡ star more old.vertex → star_changed out more old ≡ record old { rows = rows }
+changed_whole old rows taken here out more er et eh = λ i. record old { rows = sym (er ∙ (λ j. rising face_cmp (et j ++ eh j))) i }
+
+-- the other labels are changed after the first one
+others_changed : (near : List VertexStar) (i x : ℕ) (s : VertexStar) (labels others : List ℕ) (out more : List (List ℕ)) → CanChange near labels more → labels ≡ x ∷ others → i < length near → s ≡ get_or near i s → s.vertex ≡ x → stars_changed (set near i (star_changed out more s)) others out more ≡ stars_changed near labels out more
+others_changed near i x s labels others out more can el l es ex =
+    same_lists (stars_changed (set near i u) others out more) (stars_changed near labels out more) long each
   where
+    u : VertexStar
+    u = star_changed out more s
+
     n : has others x ≡ false
     n = not_again near x labels others more can el
 
-    long_last : length last ≡ length near
-    long_last = ap length ea ∙ length-changed (set near i v) others out more ∙ length-set near i v
+    long : length (stars_changed (set near i (star_changed out more s)) others out more) ≡ length (stars_changed near labels out more)
+    long = length-changed (set near i (star_changed out more s)) others out more ∙ length-set near i (star_changed out more s) ∙ sym (length-changed near labels out more)
 
-    long : length (set last i u) ≡ length (stars_changed near labels out more)
-    long = length-set last i u ∙ long_last ∙ sym (length-changed near labels out more)
-
-    u_is : u ≡ star_changed out more s
-    u_is = eu ∙ (λ j. record (still_lent near last i x s v w others out more l ex ev n ea ew j) { rows = er j }) ∙ (λ j. record (ev j) { rows = rising face_cmp (staying s.rows out ++ star more (sym ex j)) })
-
-    here : (d : VertexStar) → get_or (set last i u) i d ≡ get_or (stars_changed near labels out more) i d
+    here : (d : VertexStar) → get_or (stars_changed (set near i (star_changed out more s)) others out more) i d ≡ get_or (stars_changed near labels out more) i d
     here d =
-        get_or-set_same last i u d (omega (arith, l, long_last))
-        ∙ u_is
+        changed_at (set near i (star_changed out more s)) others out more i d (omega (arith, l, length-set near i (star_changed out more s)))
+        ∙ ap (changed_if others out more) (get_or-set_same near i (star_changed out more s) d l)
+        ∙ ap (λ b. cond b (star_changed out more (star_changed out more s)) (star_changed out more s)) (ap (has others) ex ∙ n)
         ∙ sym (changed_at near labels out more i d l
         ∙ ap (changed_if labels out more) (get_or_default near i d s l ∙ sym es)
         ∙ ap (λ b. cond b (star_changed out more s) s) (ap (has labels) ex ∙ ap (λ xs. has xs x) el ∙ or_left (nat_eq x x) (has others x) (eq-eqb x x refl)))
 
-    other : (k : ℕ) (d : VertexStar) → k ≢ i → k < length near → get_or (set last i u) k d ≡ get_or (stars_changed near labels out more) k d
+    other : (k : ℕ) (d : VertexStar) → k ≢ i → k < length near → get_or (stars_changed (set near i (star_changed out more s)) others out more) k d ≡ get_or (stars_changed near labels out more) k d
     other k d ne lk =
         let t : VertexStar = get_or near k d in
         let apart : x ≢ t.vertex = λ e. ne (one_place near k i d can.rising lk l (sym e ∙ sym (ap (λ (r : VertexStar). r.vertex) (get_or_default near i d s l ∙ sym es) ∙ ex))) in
-        get_or-set_other last i k u d ne
-        ∙ ap (λ xs. get_or xs k d) ea
-        ∙ changed_at (set near i v) others out more k d (omega (arith, lk, length-set near i v))
-        ∙ ap (changed_if others out more) (get_or-set_other near i k v d ne)
-        ∙ ap (λ b. cond b (star_changed out more t) t) (sym (ap (λ xs. has xs t.vertex) el ∙ ap (λ b. b || has others t.vertex) (ne_eqb x t.vertex apart)))
-        ∙ sym (changed_at near labels out more k d lk)
+        changed_at (set near i (star_changed out more s)) others out more k d (omega (arith, lk, length-set near i (star_changed out more s)))
+        ∙ ap (changed_if others out more) (get_or-set_other near i k (star_changed out more s) d ne)
+        ∙ sym (changed_at near labels out more k d lk
+        ∙ ap (λ b. cond b (star_changed out more t) t) (ap (λ xs. has xs t.vertex) el ∙ ap (λ b. b || has others t.vertex) (ne_eqb x t.vertex apart)))
 
-    each : (k : ℕ) (d : VertexStar) → k < length (set last i u) → get_or (set last i u) k d ≡ get_or (stars_changed near labels out more) k d
+    each : (k : ℕ) (d : VertexStar) → k < length (stars_changed (set near i (star_changed out more s)) others out more) → get_or (stars_changed (set near i (star_changed out more s)) others out more) k d ≡ get_or (stars_changed near labels out more) k d
     each k d lk =
-        let inside : k < length near = omega (arith, lk, length-set last i u, long_last) in
-        elim (nat_eq k i) as (λ b. nat_eq k i ≡ b → get_or (set last i u) k d ≡ get_or (stars_changed near labels out more) k d) [
-          | true ↦ λ e. let g : k ≡ i = nat_eq_is k i e in let P : ℕ → Type 0 = λ m. get_or (set last i u) m d ≡ get_or (stars_changed near labels out more) m d in subst P (sym g) (here d)
+        let inside : k < length near = omega (arith, lk, length-changed (set near i (star_changed out more s)) others out more, length-set near i (star_changed out more s)) in
+        elim (nat_eq k i) as (λ b. nat_eq k i ≡ b → get_or (stars_changed (set near i (star_changed out more s)) others out more) k d ≡ get_or (stars_changed near labels out more) k d) [
+          | true ↦ λ e. let g : k ≡ i = nat_eq_is k i e in let P : ℕ → Type 0 = λ m. get_or (stars_changed (set near i (star_changed out more s)) others out more) m d ≡ get_or (stars_changed near labels out more) m d in subst P (sym g) (here d)
           | false ↦ λ e. other k d (λ g. true≢false (sym (eq-eqb k i g) ∙ e)) inside
         ] refl
 
@@ -173,9 +140,45 @@ pure_at near labels more i d can l =
     let P : ℕ → Type 0 = λ n. AllByRecursion (IsFacet n) more in
     subst P (get_or-map (λ (t : VertexStar). t.dim) near i d 0 l) (each_at P (map (λ (t : VertexStar). t.dim) near) i 0 can.pure (omega (arith, l, length-map near (λ (t : VertexStar). t.dim))))
 
--- the rows as a program makes them
-pub rows_made : (put taken room lent rows here out more : List (List ℕ)) (x : ℕ) → put ≡ rising face_cmp (taken ++ here) → taken ≡ staying room out → room ≡ lent → lent ≡ rows → here ≡ star more x → put ≡ rising face_cmp (staying rows out ++ star more x)
-rows_made put taken room lent rows here out more x e1 e2 e3 e4 e5 = e1 ∙ (λ j. rising face_cmp ((e2 ∙ ap (λ fs. staying fs out) (e3 ∙ e4)) j ++ e5 j))
+-- ---- with their rooms
 
-pub long_changed : (near last : List VertexStar) (i : ℕ) (v : VertexStar) (labels : List ℕ) (out more : List (List ℕ)) → last ≡ stars_changed (set near i v) labels out more → length last ≡ length near
-long_changed near last i v labels out more e = ap length e ∙ length-changed (set near i v) labels out more ∙ length-set near i v
+-- the star of the first label, which is changed to u
+pub record FirstChanged (near last : List KeptStar) (labels others : List ℕ) (out more : List (List ℕ)) : Type 0 where
+  pub can : CanChange (shown last) others more
+  pub room : HasRoom last others out more
+  pub stars : stars_changed (shown last) others out more ≡ stars_changed (shown near) labels out more
+  pub rooms : rooms last ≡ rooms near
+
+pub first_changed : (near : List KeptStar) (i x : ℕ) (s u : KeptStar) (labels others : List ℕ) (out more : List (List ℕ)) → CanChange (shown near) labels more → HasRoom near labels out more → labels ≡ x ∷ others → i < length near → s ≡ get_or near i s → s.star.vertex ≡ x → u ≡ record { star = star_changed out more s.star; room = s.room } → FirstChanged near (set near i u) labels others out more
+first_changed near i x s u labels others out more can room el l es ex eu = record {
+  can = subst (λ ns. CanChange ns others more) (sym stars) (others_can (shown near) i x s.star labels others out more can el shown_is);
+  room = λ k d lk t. fits k d (omega (arith, lk, length-set near i u)) t;
+  stars = ap (λ ns. stars_changed ns others out more) stars ∙ others_changed (shown near) i x s.star labels others out more can el (omega (arith, l, length-shown near)) shown_is ex;
+  rooms = map-set_same (λ (t : KeptStar). t.room) near i u s (ap (λ (t : KeptStar). t.room) (eu ∙ (λ j. record { star = star_changed out more (es j).star; room = (es j).room })));
+}
+  where
+    shown_is : s.star ≡ get_or (shown near) i s.star
+    shown_is = ap (λ (t : KeptStar). t.star) es ∙ sym (shown_at near i s s.star l)
+
+    stars : shown (set near i u) ≡ set (shown near) i (star_changed out more s.star)
+    stars = map-set (λ (t : KeptStar). t.star) near i u ∙ ap (λ (t : KeptStar). set (shown near) i t.star) eu
+
+    n : has others x ≡ false
+    n = not_again (shown near) x labels others more can el
+
+    fits : (k : ℕ) (d : KeptStar) → k < length near → has others (get_or (set near i u) k d).star.vertex ≡ true → length (star_changed out more (get_or (set near i u) k d).star).rows ≤ (get_or (set near i u) k d).room
+    fits k d lk =
+        let P : KeptStar → Type 0 = λ r. has others r.star.vertex ≡ true → length (star_changed out more r.star).rows ≤ r.room in
+        elim (nat_eq k i) as (λ b. nat_eq k i ≡ b → P (get_or (set near i u) k d)) [
+          | true ↦ λ e. subst P (sym (ap (λ m. get_or (set near i u) m d) (nat_eq_is k i e) ∙ get_or-set_same near i u d l)) (λ t. absurd (true≢false (sym t ∙ ap (λ (r : KeptStar). has others r.star.vertex) eu ∙ ap (has others) ex ∙ n)))
+          | false ↦ λ e. subst P (sym (get_or-set_other near i k u d (λ g. true≢false (sym (eq-eqb k i g) ∙ e)))) (λ t. room k d lk (ap (λ xs. has xs (get_or near k d).star.vertex) el ∙ or_right (nat_eq x (get_or near k d).star.vertex) (has others (get_or near k d).star.vertex) t))
+        ] refl
+
+-- what the star of the first label needs
+pub first_pure : (near : List KeptStar) (i : ℕ) (d : KeptStar) (labels : List ℕ) (more : List (List ℕ)) → CanChange (shown near) labels more → i < length near → AllByRecursion (IsFacet (get_or near i d).star.dim) more
+first_pure near i d labels more can l =
+    let P : VertexStar → Type 0 = λ s. AllByRecursion (IsFacet s.dim) more in
+    subst P (shown_at near i d d.star l) (pure_at (shown near) labels more i d.star can (omega (arith, l, length-shown near)))
+
+pub first_room : (near : List KeptStar) (i x : ℕ) (d : KeptStar) (labels others : List ℕ) (out more : List (List ℕ)) → HasRoom near labels out more → labels ≡ x ∷ others → i < length near → (get_or near i d).star.vertex ≡ x → length (star_changed out more (get_or near i d).star).rows ≤ (get_or near i d).room
+first_room near i x d labels others out more room el l ex = room i d l (ap (has labels) ex ∙ ap (λ xs. has xs x) el ∙ or_left (nat_eq x x) (has others x) (eq-eqb x x refl))

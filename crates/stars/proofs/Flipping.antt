@@ -1,7 +1,9 @@
 -- A flip on the stars of its own labels.
-use Rattle.std.proofs.Common.{◌≡◌, ℕ, ◌≤◌, Bool, true, false, cond, not, nat_eq, if◌then◌else◌, ◌||◌, List, [], ◌∷◌, ◌++◌, length, map, Ok, sym, ◌∙◌, ap, refl, subst, arith}
+use Rattle.std.proofs.Common.{◌≡◌, ℕ, ◌<◌, ◌≤◌, get_or, Bool, true, false, cond, not, nat_eq, if◌then◌else◌, ◌||◌, List, [], ◌∷◌, ◌++◌, length, map, Ok, sym, ◌∙◌, ap, refl, subst, arith}
 use Rattle.std.specs.List.{filter, AllByRecursion}
-use Rattle.std.proofs.lemmas.List.{length-map}
+use Rattle.std.proofs.lemmas.List.{length-map, get_or-map}
+use Rattle.std.proofs.lemmas.List.Filters.{length-filter_both}
+use Rattle.complex_core.proofs.Exchanges.{both_fit}
 use Rattle.complex_core.specs.Labels.{IsFace, IsRising, has, holds, union, without, face_cmp}
 use Rattle.std.specs.Ordering.{nat_cmp}
 use Rattle.complex_core.specs.Rising.{rising}
@@ -13,12 +15,15 @@ use Rattle.flip_rules.specs.Flips.{broken_rule, flipped, join_boundary, Legal, C
 use Rattle.flip_rules.proofs.Legal.{legal}
 use Rattle.flip_rules.proofs.Links.{staying_sides}
 use Rattle.flip_rules.proofs.Replays.{complex_flipped}
+use Rattle.flip_rules.proofs.Back.{undoes}
 use Rattle.flip_rules.specs.declared.flip.Flip.{Flip}
 use Rattle.star_laws.specs.Stars.{star, star_after}
 use Rattle.star_laws.proofs.FlipStars.{star_flipped as star_seen, other_star}
-use Rattle.stars.specs.StarViews.{VertexStar, vertices, IsStarOf, AreStarsOf, HasLabels}
-use Rattle.stars.specs.FlipsHere.{star_flipped, stars_flipped}
-use Rattle.stars.specs.Changes.{star_changed, stars_changed, CanChange, AreWithin, IsWithin}
+use Rattle.stars.specs.StarViews.{VertexStar, KeptStar, shown, rooms, counts, EachAtMost, vertices, IsStarOf, AreStarsOf}
+use Rattle.stars.specs.FlipsHere.{star_flipped, stars_flipped, UndoLaw}
+use Rattle.stars.specs.Changes.{star_changed, stars_changed, CanChange, HasRoom, HasSpare, AreWithin, IsWithin}
+use Rattle.stars.proofs.Finding.{shown_at, length-shown}
+use Rattle.stars.proofs.Changing.{changed_at, length-changed}
 
 -- two tests in either order
 filter_swap : (p q : List ℕ → Bool) (fs : List (List ℕ)) → filter p (filter q fs) ≡ filter q (filter p fs)
@@ -66,15 +71,15 @@ labels_held vs a b p q = holds_each vs (union a b) (λ z t. either (has a z) (ha
     either true y z h f g = f refl
     either false y z h f g = g h
 
-pub can_change : (k : ComplexView) (near : List VertexStar) (f : Flip) (labels : List ℕ) (more : List (List ℕ)) → AreStarsOf k near → HasLabels near f → CanPut k.dim f.a f.b → IsFace labels → labels ≡ union f.a f.b → more ≡ join_boundary f.b f.a → CanChange near labels more
-can_change k near f labels more h held put face el em =
+pub can_change : (k : ComplexView) (near : List VertexStar) (a b labels : List ℕ) (more : List (List ℕ)) → AreStarsOf k near → holds (vertices near) labels ≡ true → CanPut k.dim a b → IsFace labels → more ≡ join_boundary b a → CanChange near labels more
+can_change k near a b labels more h held put face em =
     let P : List (List ℕ) → Type 0 = λ fs. CanChange near labels fs in
     subst P (sym em) (record {
       rising = h.rising;
       labels_rise = above_tail nat_cmp 0 labels face.rising;
-      held = ap (holds (vertices near)) el ∙ labels_held (vertices near) f.a f.b held.first held.second;
-      few = omega (arith, put.few, length-map f.a (λ x. union f.b (without f.a x)));
-      pure = all_dims near k (join_boundary f.b f.a) h.each put.pure;
+      held = held;
+      few = omega (arith, put.few, length-map a (λ x. union b (without a x)));
+      pure = all_dims near k (join_boundary b a) h.each put.pure;
     })
 
 -- what it takes out and puts in lies within its labels
@@ -166,3 +171,46 @@ stars_of_flipped k near f faces ok h = record {
 
 pub stars_of_last : (k : ComplexView) (near last : List VertexStar) (f : Flip) → last ≡ stars_flipped near f.a f.b → OfFaces f → broken_rule k f.a f.b ≡ Ok tt → AreStarsOf k near → AreStarsOf (flipped k f.a f.b) last
 stars_of_last k near last f e faces ok h = let P : List VertexStar → Type 0 = λ ss. AreStarsOf (flipped k f.a f.b) ss in subst P (sym e) (stars_of_flipped k near f faces ok h)
+
+-- ---- with their rooms
+
+-- room for all sets of a flip is room for what a star becomes
+pub room_of_spare : (near : List KeptStar) (labels : List ℕ) (out more : List (List ℕ)) (n : ℕ) → length more ≤ n → HasSpare near labels n → HasRoom near labels out more
+room_of_spare near labels out more n few spare i d l t =
+    let s : VertexStar = (get_or near i d).star in
+    both_fit (staying s.rows out) (star more s.vertex) (get_or near i d).room (omega (arith, few, spare i d l t, length-filter_both (λ f. not (is_facet out f)) (λ f. not (not (is_facet out f))) (λ f. refl) s.rows, length-filter_both (λ f. holds f (s.vertex ∷ [])) (λ f. not (holds f (s.vertex ∷ []))) (λ f. refl) more))
+
+pub room_of_counts : (k : ComplexView) (near : List KeptStar) (a b labels : List ℕ) → AreStarsOf k (shown near) → broken_rule k a b ≡ Ok tt → labels ≡ union a b → EachAtMost (counts (stars_flipped (shown near) a b)) (rooms near) → HasRoom near labels (join_boundary a b) (join_boundary b a)
+room_of_counts k near a b labels h ok el fits i d l t =
+    let out : List (List ℕ) = join_boundary a b in
+    let more : List (List ℕ) = join_boundary b a in
+    let s : VertexStar = (get_or near i d).star in
+    let inside : i < length (shown near) = omega (arith, l, length-shown near) in
+    let same : stars_changed (shown near) labels out more ≡ stars_flipped (shown near) a b = all_flipped k (shown near) a b labels (legal k a b ok) h.each el in
+    let here : get_or (stars_changed (shown near) labels out more) i d.star ≡ star_changed out more s =
+    changed_at (shown near) labels out more i d.star inside
+    ∙ ap (λ (r : VertexStar). if has labels r.vertex then star_changed out more r else r) (shown_at near i d d.star l)
+    ∙ ap (λ c. cond c (star_changed out more s) s) t in
+    let count : get_or (counts (stars_changed (shown near) labels out more)) i 0 ≡ length (star_changed out more s).rows =
+    get_or-map (λ (r : VertexStar). length r.rows) (stars_changed (shown near) labels out more) i d.star 0 (omega (arith, inside, length-changed (shown near) labels out more))
+    ∙ ap (λ (r : VertexStar). length r.rows) here in
+    let known : get_or (counts (stars_changed (shown near) labels out more)) i 0 ≤ get_or (rooms near) i 0 = subst (λ ss. get_or (counts ss) i 0 ≤ get_or (rooms near) i 0) (sym same) (fits i) in
+    omega (arith, count, known, get_or-map (λ (r : KeptStar). r.room) near i d 0 l)
+
+-- ---- and back
+
+one_undone : (k : ComplexView) (a b : List ℕ) (s : VertexStar) → IsComplex k → IsFace a → IsFace b → broken_rule k a b ≡ Ok tt → IsStarOf k s → star_flipped b a (star_flipped a b s) ≡ s
+one_undone k a b s h fa fb ok is =
+    let u : (broken_rule (flipped k a b) b a ≡ Ok tt) × (flipped (flipped k a b) b a ≡ k) = undoes k a b h.rising ok in
+    let back : IsStarOf (flipped (flipped k a b) b a) (star_flipped b a (star_flipped a b s)) = star_of_flipped (flipped k a b) b a (star_flipped a b s) (complex_flipped k a b h fa fb ok) u.0 (star_of_flipped k a b s h ok is) in
+    λ i. record s { rows = (back.rows ∙ ap (λ (m : ComplexView). star m.facets s.vertex) u.1 ∙ sym is.rows) i }
+
+all_undone : (k : ComplexView) (a b : List ℕ) (near : List VertexStar) → IsComplex k → IsFace a → IsFace b → broken_rule k a b ≡ Ok tt → AllByRecursion (IsStarOf k) near → stars_flipped (stars_flipped near a b) b a ≡ near
+all_undone k a b [] h fa fb ok is = refl
+all_undone k a b (s ∷ near) h fa fb ok is = λ i. one_undone k a b s h fa fb ok is.0 i ∷ all_undone k a b near h fa fb ok is.1 i
+
+pub undo_law : UndoLaw
+undo_law k near f h faces ok = record {
+  legal = (undoes k f.a f.b h.complex.rising ok).0;
+  same = all_undone k f.a f.b near h.complex faces.first faces.second ok h.each;
+}

@@ -1,5 +1,5 @@
 -- The complex gathered from its stars: each facet from the star of its first label.
-use Rattle.std.proofs.Common.{◌≡◌, ℕ, zero, suc, ◌+◌, ◌-◌, ◌<◌, ◌≤◌, true, false, nat_eq, ◌||◌, List, [], ◌∷◌, length, take, Result, Ok, Err, IfOk, sym, ◌∙◌, ap, refl, subst, arith}
+use Rattle.std.proofs.Common.{◌≡◌, ℕ, ◌+◌, ◌-◌, ◌<◌, ◌≤◌, true, false, nat_eq, ◌||◌, List, [], ◌∷◌, length, Result, Ok, Err, IfOk, sym, ◌∙◌, ap, refl, subst, arith}
 use Rattle.std.specs.List.{flat_map, AllByRecursion}
 use Rattle.std.specs.Ordering.{nat_cmp}
 use Rattle.std.specs.Cmp.{first_so}
@@ -109,15 +109,6 @@ can_make k fs gs c h e =
 -- no set has another size
 pub all_sized : (fs : List (List ℕ)) (place : ℕ) → CanMake fs → CanBegin fs × StopsPure fs place → ⊥
 all_sized fs place h r = r.1.there (each_at (λ f. length f ≡ first_size fs) fs place [] h.pure r.1.inside)
-
-pub gathered_all : (m : StarList) (shown : List VertexStar) (facets : List (List ℕ)) (j : ℕ) → shown ≡ all_stars m → length shown ≤ j → facets ≡ flat_map first_rows (take j shown) → facets ≡ flat_map first_rows (all_stars m)
-gathered_all m shown facets j es l e = e ∙ ap (flat_map first_rows) (take_past shown j l ∙ es)
-  where
-    take_past : (ss : List VertexStar) (j : ℕ) → length ss ≤ j → take j ss ≡ ss
-    take_past [] zero l = refl
-    take_past [] (suc j) l = refl
-    take_past (s ∷ ss) zero l = absurd (omega (arith, l))
-    take_past (s ∷ ss) (suc j) l = ap (λ ts. s ∷ ts) (take_past ss j (omega (arith, l)))
 
 pub made_if : {E : Type 0} (m : StarList) (gs : List (List ℕ)) (r : Result ComplexView E) → gs ≡ flat_map first_rows (all_stars m) → IfOk r (λ c. c.facets ≡ rising face_cmp gs) → IfOk r (λ c. c.dim ≡ first_size gs - 1) → IfOk r (λ c. (k : ComplexView) → IsStarListOf k m → c ≡ k)
 made_if m gs (Ok c) e ef ed = λ k h. made_complex k c (flat_map first_rows (all_stars m)) gs (gathered_facets k m h) e ef ed

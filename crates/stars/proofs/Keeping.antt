@@ -9,7 +9,7 @@ use Rattle.complex_core.proofs.Laws.{nat_eq_is}
 use Rattle.stars.specs.StarViews.{VertexStar, IsStar}
 use Rattle.stars.specs.Candidates.{IsListOf}
 use Rattle.stars.specs.CandidateLists.{CandidateList, AreLists, ChangedWithin, list_after}
-use Rattle.stars.proofs.Finding.{each_at, each_from}
+use Rattle.stars.proofs.Finding.{each_from}
 use Rattle.stars.proofs.Listing.{kept_up, list_rises}
 
 -- this is a list of the star
@@ -20,12 +20,6 @@ Fits s l = IsListOf s l.index l.faces
 pub record Halfway (old now : VertexStar) (n : ℕ) (lists : List CandidateList) : Type 0 where
   pub done : (k : ℕ) (d : CandidateList) → k < n → k < length lists → Fits now (get_or lists k d)
   pub left : (k : ℕ) (d : CandidateList) → n ≤ k → k < length lists → Fits old (get_or lists k d)
-
-pub halfway_begins : (old now : VertexStar) (lists : List CandidateList) → AreLists old lists → Halfway old now 0 lists
-halfway_begins old now lists h = record {
-  done = λ k d l g. absurd (omega (arith, l));
-  left = λ k d l g. each_at (Fits old) lists k d h g;
-}
 
 same_or_other : (k n : ℕ) (P : Type 0) → (k ≡ n → P) → (k ≢ n → P) → P
 same_or_other k n P f g = elim (nat_eq k n) as (λ b. nat_eq k n ≡ b → P) [
@@ -56,13 +50,6 @@ halfway_ends old now n lists l h =
     each_from (Fits now) lists d (λ i g. h.done i d (omega (arith, g, l)) g)
 
 -- ---- one list
-
--- what a list of the star before asks and becomes
-pub low_index : (old : VertexStar) (l m : CandidateList) → l ≡ m → Fits old m → 1 ≤ l.index
-low_index old l m e f = omega (arith, f.low, ap (λ (t : CandidateList). t.index) e)
-
-pub high_index : (old now : VertexStar) (labels : List ℕ) (l m : CandidateList) → l ≡ m → ChangedWithin labels old now → Fits old m → l.index ≤ now.dim
-high_index old now labels l m e c f = omega (arith, f.high, c.dim, ap (λ (t : CandidateList). t.index) e)
 
 pub old_rises : (old : VertexStar) (l m : CandidateList) → l ≡ m → Fits old m → IsStrictlySortedBy face_cmp l.faces
 old_rises old l m e f = let P : List (List ℕ) → Type 0 = λ fs. IsStrictlySortedBy face_cmp fs in subst P (sym (ap (λ (t : CandidateList). t.faces) e ∙ f.is)) (list_rises old m.index)

@@ -1,4 +1,5 @@
 pub mod Finding
+pub mod Shown
 pub mod Views
 pub mod Changing
 pub mod Flipping
@@ -11,6 +12,8 @@ pub mod Gathering
 pub mod Asking
 pub mod Gathered
 pub mod Listing
+pub mod Rooms
 pub mod Staying
 pub mod Deciding
 pub mod Keeping
+pub mod Undoing

@@ -5,21 +5,21 @@ use Rattle.std.specs.List.Sorted.{IsStrictlySortedBy}
 use Rattle.std.specs.Ordering.{nat_cmp}
 use Rattle.std.specs.Cmp.{first_so, second_so}
 use Rattle.std.specs.Cmp.Derive.{both_true}
-use Rattle.std.specs.Cmp.Lexicographic.{nat_list_cmp_total, pointwise}
+use Rattle.std.specs.Cmp.Lexicographic.{nat_list_cmp_total}
 use Rattle.std.proofs.lemmas.List.Kept.{IsStrictlySortedBy-filter}
 use Rattle.complex_core.specs.Labels.{has, holds, face_cmp}
 use Rattle.complex_core.specs.Rising.{rising}
 use Rattle.complex_core.specs.Complexes.{IsFacet, over, is_held}
 use Rattle.complex_core.specs.Subsets.{subsets_of}
 use Rattle.complex_core.proofs.Sets.{above_tail, sorted_rising}
-use Rattle.complex_core.proofs.Laws.{both_ways, nat_eq_is, or_left, or_right, listed, listed-append, listed-filter, listed-rising, same_lists, same_sets_is}
+use Rattle.complex_core.proofs.Laws.{both_ways, nat_eq_is, or_left, or_right, listed, listed-append, listed-filter, listed-rising, same_lists}
 use Rattle.complex_core.proofs.Runs.{held_alike}
 use Rattle.complex_core.proofs.SubsetLists.{two, clash, Chosen, chosen_is, chosen_from}
 use Rattle.flip_rules.specs.Flips.{join_boundary, link_is, same_sets}
 use Rattle.flip_rules.proofs.Links.{have_sides, are_sides, link_tested, sides_held}
 use Rattle.complex_core.specs.Maps.{used}
 use Rattle.complex_core.specs.Links.{less}
-use Rattle.complex_core.proofs.SetLists.{listed-flat_map, of_kind}
+use Rattle.complex_core.proofs.SetLists.{listed-flat_map}
 use Rattle.stars.specs.StarViews.{VertexStar, IsStar}
 use Rattle.stars.specs.Candidates.{opposite, is_candidate, faces_at, candidate_faces}
 use Rattle.stars.specs.CandidateLists.{candidates_within, not_within, list_after, ChangedWithin}

@@ -1,11 +1,10 @@
 -- A map of stars, and flips on it.
-use Rattle.std.proofs.Common.{◌≡◌, ℕ, ◌+◌, ◌-◌, ◌^◌, ◌<◌, ◌≤◌, Bool, true, false, not, nat_eq, ◌||◌, ◌&&◌, List, [], ◌∷◌, ◌++◌, length, map, take, drop, get_or, Result, Ok, Err, OnOk, OnErr, sym, ◌∙◌, ap, refl, subst, arith}
+use Rattle.std.proofs.Common.{◌≡◌, ℕ, ◌+◌, ◌-◌, ◌^◌, ◌<◌, ◌≤◌, Bool, true, false, not, nat_eq, ◌||◌, ◌&&◌, List, [], ◌∷◌, ◌++◌, length, map, get_or, Result, Ok, Err, OnOk, OnErr, sym, ◌∙◌, ap, refl, subst, arith}
 use Rattle.std.specs.List.{AllByRecursion, flat_map}
 use Rattle.std.proofs.lemmas.Bool.{true≢false}
 use Rattle.std.specs.Cmp.Lexicographic.{pointwise}
 use Rattle.std.proofs.lemmas.Bool.Decides.{nat_tests}
 use Rattle.std.proofs.lemmas.Cmp.{nat_cmp_total}
-use Rattle.std.proofs.Math.Seq.{take-append_seam}
 use Rattle.std.proofs.lemmas.List.{get_or-map, length-map}
 use Rattle.complex_core.specs.Labels.{IsFace, has, holds, union, without}
 use Rattle.complex_core.specs.Complexes.{ComplexView}
@@ -141,7 +140,3 @@ flipped_map k m f d old new (Ok u) view numbers made stars h places =
     let N : List VertexStar → Type 0 = λ ss. AreNumbered d ss in
     let U : ℕ → Type 0 = λ n. UsesUpTo (flipped k f.a f.b) n in
     map_of_stars (flipped k f.a f.b) d new stars (subst N (sym made) (still_numbered f.a f.b d old numbers)) (ap (λ (n : StarList). n.dim) view ∙ h.dim) (subst U (sym few) (uses_flipped k f (places_in m) h.within places.first places.second))
-
--- a vector that was lent as a slice
-pub refilled : (len : ℕ) (items new : List VertexStar) → len ≡ length items → length new ≡ length items → take len (new ++ drop (length new) items) ≡ new
-refilled len items new e g = ap (λ n. take n (new ++ drop (length new) items)) (e ∙ sym g) ∙ take-append_seam new (drop (length new) items)

@@ -20,6 +20,10 @@ numbered_at d n v [] i other l e = absurd (omega (arith, l))
 numbered_at d n v (rows ∷ more) zero other l e = let g : n + 1 ≡ v = omega (arith, e) in λ j. record { vertex = g j; dim = d; rows = rows }
 numbered_at d n v (rows ∷ more) (suc i) other l e = numbered_at d (n + 1) v more i other (omega (arith, l)) (omega (arith, e))
 
+pub length-numbered : (d n : ℕ) (stars : List (List (List ℕ))) → length (numbered d n stars) ≡ length stars
+length-numbered d n [] = refl
+length-numbered d n (rows ∷ more) = ap suc (length-numbered d (n + 1) more)
+
 above_numbered : (d n m : ℕ) (stars : List (List (List ℕ))) → m ≤ n → Above nat_cmp m (vertices (numbered d n stars))
 above_numbered d n m [] h = tt
 above_numbered d n m (rows ∷ more) h = (cmp_less m (n + 1) (omega (arith, h)), above_numbered d (n + 1) m more (omega (arith, h)))

@@ -11,8 +11,9 @@ use Rattle.complex_core.proofs.Sets.{sorted_front}
 use Rattle.complex_core.proofs.Laws.{listed, or_left, or_right, same_set_itself}
 use Rattle.std.specs.Cmp.Lexicographic.{pointwise}
 use Rattle.star_laws.specs.Stars.{star}
-use Rattle.stars.specs.StarViews.{VertexStar, IsStar, AreNumbered, UsesUpTo, numbered, IsStarListOf}
+use Rattle.stars.specs.StarViews.{VertexStar, KeptStar, IsStar, shown, AreNumbered, UsesUpTo, numbered, IsStarListOf}
 use Rattle.stars.specs.Building.{stars_of, with_row, with_rows, CanAdd}
+use Rattle.stars.proofs.Finding.{length-shown}
 use Rattle.stars.proofs.Changing.{star_held}
 use Rattle.stars.proofs.Mapping.{uses_of}
 use Rattle.complex_core.proofs.Sorting.{each_filter}
@@ -116,8 +117,8 @@ numbered_stars : (d n : ℕ) (fs : List (List ℕ)) (count : ℕ) → stars_of d
 numbered_stars d n fs zero = refl
 numbered_stars d n fs (suc count) = ap (λ ss. record { vertex = n + 1; dim = d; rows = star fs (n + 1) } ∷ ss) (numbered_stars d (n + 1) fs count)
 
-pub filled_fields : (d count : ℕ) (fs : List (List ℕ)) (items : List VertexStar) → items ≡ stars_of d fs 0 count → count < 2 ^ 16 → (length items < 2 ^ 16) × AreNumbered d items
-filled_fields d count fs items e few = let P : List VertexStar → Type 0 = λ ss. (length ss < 2 ^ 16) × AreNumbered d ss in subst P (sym e) (omega (arith, few, length-stars_of d fs 0 count), numbered_stars d 0 fs count)
+pub filled_fields : (d count : ℕ) (fs : List (List ℕ)) (items : List KeptStar) → shown items ≡ stars_of d fs 0 count → count < 2 ^ 16 → (length items < 2 ^ 16) × AreNumbered d (shown items)
+filled_fields d count fs items e few = (omega (arith, few, length-shown items, ap length e, length-stars_of d fs 0 count), subst (AreNumbered d) (sym e) (numbered_stars d 0 fs count))
 
 pub all_done : (fs gs : List (List ℕ)) (j : ℕ) → fs ≡ gs → length fs ≤ j → take j fs ≡ gs
 all_done fs gs j e l = take_past fs j l ∙ e

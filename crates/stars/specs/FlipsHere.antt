@@ -1,9 +1,9 @@
 -- What flips make of the stars that are held.
-use Rattle.std.specs.Prelude.{◌≡◌, ℕ, false, ◌||◌, if◌then◌else◌, List, map, Some}
+use Rattle.std.specs.Prelude.{◌≡◌, ℕ, false, ◌||◌, if◌then◌else◌, List, map, Some, Ok}
 use Rattle.std.specs.List.{AllByRecursion}
 use Rattle.complex_core.specs.Labels.{has}
 use Rattle.complex_core.specs.Complexes.{ComplexView}
-use Rattle.flip_rules.specs.Flips.{OfFaces, replay}
+use Rattle.flip_rules.specs.Flips.{OfFaces, replay, broken_rule, flipped}
 use Rattle.flip_rules.specs.declared.flip.Flip.{Flip}
 use Rattle.star_laws.specs.Stars.{star, star_after, star_after_all, flips_touch, LabelsPass}
 use Rattle.stars.specs.StarViews.{VertexStar, AreStarsOf, vertices}
@@ -30,6 +30,15 @@ pub record ReplaysHere (l : ComplexView) (near : List VertexStar) (flips : List 
   pub replays : replay l flips ≡ Some end
   pub held : AreStarsOf end (stars_replayed near flips)
   pub others : (p : ℕ) → flips_touch p flips ≡ false → star end.facets p ≡ star l.facets p
+
+-- the inverse of the flip is legal after it, and leads back to these stars
+pub record Undoes (k : ComplexView) (near : List VertexStar) (f : Flip) : Type 0 where
+  pub legal : broken_rule (flipped k f.a f.b) f.b f.a ≡ Ok tt
+  pub same : stars_flipped (stars_flipped near f.a f.b) f.b f.a ≡ near
+
+-- a legal flip on stars of a complex can be undone
+abbrev pub UndoLaw : Type 0
+UndoLaw = (k : ComplexView) (near : List VertexStar) (f : Flip) → AreStarsOf k near → OfFaces f → broken_rule k f.a f.b ≡ Ok tt → Undoes k near f
 
 -- flips whose labels are all held, and that replay on one complex with these stars, do so on every complex with them
 abbrev pub FlipsSeenHere : Type 0

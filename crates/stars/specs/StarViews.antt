@@ -14,6 +14,11 @@ pub record VertexStar : Type 0 where
   pub dim : ℕ
   pub rows : List (List ℕ)
 
+-- a star, and for how many facets it has memory
+pub record KeptStar : Type 0 where
+  pub star : VertexStar
+  pub room : ℕ
+
 -- a star for each place from 1
 pub record StarList : Type 0 where
   pub dim : ℕ
@@ -42,6 +47,21 @@ numbered d n (rows ∷ more) = record { vertex = n + 1; dim = d; rows = rows } �
 -- all stars, each with its vertex
 abbrev pub all_stars : StarList → List VertexStar
 all_stars m = numbered m.dim 0 m.stars
+
+-- the stars alone, and their rooms alone
+abbrev pub shown : List KeptStar → List VertexStar
+shown near = map (λ s. s.star) near
+
+abbrev pub rooms : List KeptStar → List ℕ
+rooms near = map (λ s. s.room) near
+
+-- how many facets each star has
+abbrev pub counts : List VertexStar → List ℕ
+counts stars = map (λ s. length s.rows) stars
+
+-- each number is at most the one at its place
+abbrev pub EachAtMost : List ℕ → List ℕ → Type 0
+EachAtMost ms ns = (i : ℕ) → get_or ms i 0 ≤ get_or ns i 0
 
 -- the vertices of some stars
 abbrev pub vertices : List VertexStar → List ℕ

@@ -4,7 +4,7 @@ ghost use Rattle.std.specs.List.{list_all};
 ghost use Rattle.complex_core.specs.Labels.{face_cmp};
 ghost use Rattle.complex_core.specs.Rising.{rising};
 ghost use Rattle.complex_core.specs.ComplexFaults.{CanMake, first_size};
-ghost use Rattle.stars.specs.StarViews.{IsStar};
+ghost use Rattle.stars.specs.StarViews.{shown};
 ghost use Rattle.stars.specs.Building.{stars_of, with_rows, CanAdd, begins, first_rows};
 
 use crate::star::Star;
@@ -28,7 +28,7 @@ pub(crate) fn are_up_to(faces: &[Face], most: u16) -> bool
 // The stars of the places from 1 on, without facets.
 pub(crate) fn empty_stars(alloc: Global, dim: u32, places: u16) -> Result<Vec<Star>, AllocError>
     requires { dim ≤ 6 }
-    ensures { IfOk result (λ v. v.items ≡ stars_of dim [] 0 places) }
+    ensures { IfOk result (λ v. shown v.items ≡ stars_of dim [] 0 places) }
 {
     let mut stars = Vec::new(alloc);
     for place in 0..places {
@@ -40,8 +40,8 @@ pub(crate) fn empty_stars(alloc: Global, dim: u32, places: u16) -> Result<Vec<St
 
 // Puts a facet behind the rows of the stars of its labels.
 pub(crate) fn add_facet(stars: &mut Vec<Star>, facet: &Face) -> Result<(), AllocError>
-    requires { CanAdd stars.old.items facet.now }
-    ensures { OnOk result (stars.new.items ≡ with_rows facet.now facet.now stars.old.items) }
+    requires { CanAdd (shown stars.old.items) facet.now }
+    ensures { OnOk result (shown stars.new.items ≡ with_rows facet.now facet.now (shown stars.old.items)) }
 {
     for label in facet.labels().as_slice() {
         stars[*label as usize - 1].push(facet)?;
@@ -58,7 +58,7 @@ fn is_begun_by(row: &Face, label: u16) -> bool
 
 // Adds the rows that begin with the star's vertex: over all stars these are each facet once, in order.
 pub(crate) fn add_first_rows(facets: &mut Vec<Face>, star: &Star) -> Result<(), AllocError>
-    ensures { OnOk result (facets.new.items ≡ facets.old.items ++ first_rows star.now) }
+    ensures { OnOk result (facets.new.items ≡ facets.old.items ++ first_rows star.now.star) }
 {
     let vertex = star.vertex();
     for row in star.rows() {

@@ -43,11 +43,11 @@ impl Candidates {
     // Exchanges the faces within some labels for those that are candidates of a star now.
     fn decide(&mut self, star: &Star, labels: &Face) -> Result<(), AllocError>
         requires low { 1 ≤ self.old.index }
-        requires high { self.old.index ≤ star.now.dim }
+        requires high { self.old.index ≤ star.now.star.dim }
         requires rising { IsStrictlySortedBy face_cmp self.old.faces }
-        ensures star { IsStar star.now }
+        ensures star { IsStar star.now.star }
         ensures index { self.new.index ≡ self.old.index }
-        ensures faces { OnOk result (self.new.faces ≡ list_after self.old.faces star.now self.old.index labels.now) }
+        ensures faces { OnOk result (self.new.faces ≡ list_after self.old.faces star.now.star self.old.index labels.now) }
     {
         let more = candidates_within(*self.faces.allocator(), star, self.index, labels)?;
         leave_out(&mut self.faces, labels);
@@ -60,8 +60,8 @@ impl Candidates {
 // Whether a face of the size of an index is a candidate of it.
 fn is_candidate(star: &Star, face: &Face) -> bool
     requires some { 1 ≤ length face.now }
-    requires small { length face.now ≤ star.now.dim }
-    ensures { result ≡ is_candidate star.now.rows (star.now.dim + 2 - length face.now) face.now }
+    requires small { length face.now ≤ star.now.star.dim }
+    ensures { result ≡ is_candidate star.now.star.rows (star.now.star.dim + 2 - length face.now) face.now }
 {
     flip_at(star.dim(), star.rows(), face).is_some()
 }
@@ -69,8 +69,8 @@ fn is_candidate(star: &Star, face: &Face) -> bool
 // Whether a set is a candidate of an index.
 fn belongs(star: &Star, index: u32, face: &Face) -> bool
     requires low { 1 ≤ index }
-    requires high { index ≤ star.now.dim }
-    ensures { result ≡ belongs star.now index face.now }
+    requires high { index ≤ star.now.star.dim }
+    ensures { result ≡ belongs star.now.star index face.now }
 {
     let size = (star.dim() + 1 - index) as usize;
     if face.len() != size {
@@ -93,10 +93,10 @@ fn add_candidates(
     all: &mut Vec<Face>,
 ) -> Result<(), AllocError>
     requires low { 1 ≤ index }
-    requires high { index ≤ star.now.dim }
+    requires high { index ≤ star.now.star.dim }
     requires face { IsRising (face.now ++ labels.now) }
     requires few { length face.now + others ≤ 8 }
-    ensures { OnOk result (all.new.items ≡ all.old.items ++ filter (belongs star.now index) (map (λ s. face.now ++ s) (subsets_of others labels.now))) }
+    ensures { OnOk result (all.new.items ≡ all.old.items ++ filter (belongs star.now.star index) (map (λ s. face.now ++ s) (subsets_of others labels.now))) }
 {
     if others == 0 {
         if belongs(star, index, face) {
@@ -120,9 +120,9 @@ fn candidates_within(
     labels: &Face,
 ) -> Result<Vec<Face>, AllocError>
     requires low { 1 ≤ index }
-    requires high { index ≤ star.now.dim }
-    ensures star { IsStar star.now }
-    ensures all { IfOk result (λ v. v.items ≡ candidates_within star.now index labels.now) }
+    requires high { index ≤ star.now.star.dim }
+    ensures star { IsStar star.now.star }
+    ensures all { IfOk result (λ v. v.items ≡ candidates_within star.now.star index labels.now) }
 {
     let size = (star.dim() + 1 - index) as usize;
     let mut all = Vec::new(alloc);
@@ -147,8 +147,8 @@ pub(crate) fn decided_again(
     labels: &Face,
 ) -> Vec<Candidates>
     requires labels { IsStrictlySortedBy nat_cmp labels.now }
-    requires lists { (old : VertexStar) × IsStar old × AreLists old lists.items × ChangedWithin labels.now old star.now }
-    ensures { AreLists star.now result.items }
+    requires lists { (old : VertexStar) × IsStar old × AreLists old lists.items × ChangedWithin labels.now old star.now.star }
+    ensures { AreLists star.now.star result.items }
 {
     for place in 0..lists.len() {
         if lists[place].decide(star, labels).is_err() {

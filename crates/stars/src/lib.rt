@@ -18,9 +18,9 @@ mod over;
 mod rows;
 mod star;
 
-pub use laws::flips_seen_here;
+pub use laws::{flips_seen_here, undo_law};
 pub use linked::flip_at;
-pub use local::{flip_here, has_labels, has_star, local_check};
+pub use local::{flip_here, has_labels, has_star, local_check, undo_here};
 pub use map::StarMap;
 pub use over::Over;
 pub use star::Star;

@@ -4,7 +4,7 @@ ghost use Rattle.std.specs.List.{AllByRecursion, flat_map};
 ghost use Rattle.complex_core.specs.Complexes.{ComplexView, IsComplex};
 ghost use Rattle.flip_rules.specs.Flips.{broken_rule, flipped, FlipRefused, OfFaces};
 ghost use Rattle.flip_rules.specs.declared.flip.Illegal.{Illegal};
-ghost use Rattle.stars.specs.StarViews.{StarList, IsStar, places_in, star_at, all_stars, AreNumbered, UsesUpTo, IsStarListOf, OnPlaces};
+ghost use Rattle.stars.specs.StarViews.{StarList, IsStar, shown, places_in, star_at, all_stars, AreNumbered, UsesUpTo, IsStarListOf, OnPlaces};
 
 use crate::build::{add_facet, add_first_rows, are_up_to, complex_of, empty_stars, is_up_to};
 use crate::local::{flip_here, local_check};
@@ -23,13 +23,13 @@ pub struct StarMap {
 
 impl Model for StarMap {
     ghost use Rattle.std.specs.Prelude.{map, length, ◌<◌, ◌^◌};
-    ghost use Rattle.stars.specs.StarViews.{StarList, AreNumbered};
+    ghost use Rattle.stars.specs.StarViews.{StarList, AreNumbered, shown};
 
     ghost Value = { StarList };
 
-    ghost view = { λ m. record { dim = m.dim; stars = map (λ s. s.rows) m.stars.items } };
+    ghost view = { λ m. record { dim = m.dim; stars = map (λ s. s.rows) (shown m.stars.items) } };
 
-    ghost invariant = { λ m. (length m.stars.items < 2 ^ 16) × AreNumbered m.dim m.stars.items };
+    ghost invariant = { λ m. (length m.stars.items < 2 ^ 16) × AreNumbered m.dim (shown m.stars.items) };
 }
 
 impl StarMap {
@@ -57,23 +57,23 @@ impl StarMap {
     /// The map of these stars, which are those of the places from 1 on, in this dimension.
     pub fn from_stars(dim: u32, stars: Vec<Star>) -> StarMap
         requires few { length stars.items < 2 ^ 16 }
-        requires numbered { AreNumbered dim stars.items }
+        requires numbered { AreNumbered dim (shown stars.items) }
         ensures dim { result.dim ≡ dim }
-        ensures stars { all_stars result ≡ stars.items }
+        ensures stars { all_stars result ≡ shown stars.items }
     {
         StarMap { dim, stars }
     }
 
     /// The stars, in the order of their places.
     pub fn into_stars(self) -> Vec<Star>
-        ensures { result.items ≡ all_stars self }
+        ensures { shown result.items ≡ all_stars self }
     {
         self.stars
     }
 
     /// The stars, in the order of their places.
     pub fn stars(&self) -> &[Star]
-        ensures { result.now ≡ all_stars self.now }
+        ensures { shown result.now ≡ all_stars self.now }
     {
         &self.stars
     }
@@ -96,7 +96,7 @@ impl StarMap {
     pub fn star(&self, place: u16) -> &Star
         requires low { 0 < place }
         requires high { place ≤ places_in self.now }
-        ensures { result.now ≡ record { vertex = place; dim = self.now.dim; rows = star_at self.now place } }
+        ensures { result.now.star ≡ record { vertex = place; dim = self.now.dim; rows = star_at self.now place } }
     {
         &self.stars[place as usize - 1]
     }

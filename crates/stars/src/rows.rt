@@ -1,65 +1,57 @@
 // What a flip does to the rows of stars.
-ghost use Rattle.std.specs.Prelude.{◌≡◌, ◌<◌, ◌≤◌, true, length, get_or, OnOk, OnErr};
-ghost use Rattle.std.specs.List.{AllByRecursion};
-ghost use Rattle.std.specs.List.Sorted.{IsStrictlySortedBy};
-ghost use Rattle.std.specs.Ordering.{nat_cmp};
+ghost use Rattle.std.specs.Prelude.{◌≡◌, ◌<◌, ◌≤◌, true, length, get_or, OnOk};
 ghost use Rattle.complex_core.specs.Labels.{IsRising, has, holds};
-ghost use Rattle.stars.specs.StarViews.{VertexStar, vertices};
-ghost use Rattle.stars.specs.Changes.{stars_changed, CanChange, IsWithin};
+ghost use Rattle.stars.specs.StarViews.{KeptStar, EachAtMost, vertices, shown, rooms};
+ghost use Rattle.stars.specs.Changes.{stars_changed, CanChange, HasRoom, HasSpare, IsWithin};
 
-use crate::star::{Lent, Star};
-use complex_core::{Face, put_all_in, take_all_out};
-use flip_rules::FewFaces;
+use crate::star::Star;
+use complex_core::Face;
 use std::alloc::AllocError;
 
 // The place of a vertex among stars that rise in their vertices.
 pub(crate) fn place_of(near: &[Star], vertex: u16) -> usize
-    requires rising { IsRising (vertices near.now) }
-    requires held { has (vertices near.now) vertex ≡ true }
+    requires rising { IsRising (vertices (shown near.now)) }
+    requires held { has (vertices (shown near.now)) vertex ≡ true }
     ensures within { result < length near.now }
-    ensures there { (other : VertexStar) → (get_or near.now result other).vertex ≡ vertex }
+    ensures there { (other : KeptStar) → (get_or near.now result other).star.vertex ≡ vertex }
 {
     near.partition_point(|star| star.vertex() < vertex)
 }
 
-// Changes the stars of some labels: takes sets out, and puts in those of others that contain the label.
-// All of these sets lie within the labels `joined`.
-//
-// A star's facets are out of it until those after it have found their memory, so that nothing is changed where
-// there is none.
+// Makes room in the stars of some labels for so many more facets. No star is changed.
+pub(crate) fn make_room(near: &mut [Star], labels: &[u16], more: usize) -> Result<(), AllocError>
+    requires rising { IsRising (vertices (shown near.old)) }
+    requires held { holds (vertices (shown near.old)) labels.now ≡ true }
+    ensures stars { shown near.new ≡ shown near.old }
+    ensures rooms { EachAtMost (rooms near.old) (rooms near.new) }
+    ensures enough { OnOk result (HasSpare near.new labels.now more) }
+{
+    let Some((label, others)) = labels.split_first() else {
+        return Ok(());
+    };
+    let place = place_of(near, *label);
+    near[place].reserve(more)?;
+    make_room(near, others, more)
+}
+
+// Changes the stars of some labels, which have room: takes sets out, and puts in those of others that
+// contain the label. All of these sets lie within the labels `joined`. It takes no memory.
 pub(crate) fn change_stars(
     near: &mut [Star],
     labels: &[u16],
     joined: &Face,
     out: &[Face],
     more: &[Face],
-) -> Result<(), AllocError>
-    requires can { CanChange near.old labels.now more.now }
+)
+    requires can { CanChange (shown near.old) labels.now more.now }
     requires within { IsWithin joined.now out.now more.now }
-    ensures ok { OnOk result (near.new ≡ stars_changed near.old labels.now out.now more.now) }
-    ensures err { OnErr result (near.new ≡ near.old) }
+    requires room { HasRoom near.old labels.now out.now more.now }
+    ensures stars { shown near.new ≡ stars_changed (shown near.old) labels.now out.now more.now }
+    ensures rooms { rooms near.new ≡ rooms near.old }
 {
-    let Some((label, others)) = labels.split_first() else {
-        return Ok(());
-    };
-    let place = place_of(near, *label);
-    let Lent { mut rows, lists } = near[place].lend_rows();
-    let more_here = FewFaces::holding(more, *label);
-    let more_here = more_here.as_slice();
-    if let Err(fault) = rows.reserve(more_here.len()) {
-        near[place].put_rows(rows);
-        return Err(fault);
-    }
-    match change_stars(near, others, joined, out, more) {
-        Ok(()) => {
-            take_all_out(&mut rows, out);
-            put_all_in(&mut rows, more_here);
-            near[place].put_changed(rows, lists, joined);
-            Ok(())
-        }
-        Err(fault) => {
-            near[place].put_rows(rows);
-            Err(fault)
-        }
+    if let Some((label, others)) = labels.split_first() {
+        let place = place_of(near, *label);
+        near[place].change(joined, out, more);
+        change_stars(near, others, joined, out, more);
     }
 }

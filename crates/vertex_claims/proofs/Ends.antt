@@ -11,7 +11,7 @@ use Rattle.board_rule.specs.Books.{Book}
 use Rattle.board_rule.specs.Views.{home, home_at}
 use Rattle.board_rule.specs.Ends.{Opens, Closes}
 use Rattle.board_rule.specs.declared.setup.Setup.{Setup}
-use Rattle.board_rule.specs.declared.data.VersionedStar.{VersionedStar}
+use Rattle.board_rule.specs.Homes.{VersionedStar}
 use Rattle.board_rule.specs.declared.data.Slot.{Slot}
 use Rattle.board_rule.specs.declared.data.Slot.TheVariants.{Journal, Home}
 use Rattle.board_rule.specs.declared.view.MainView.{MainView}

@@ -13,7 +13,7 @@ use Rattle.board_rule.specs.Items.{item, has_item, single, places_of, without}
 use Rattle.board_rule.specs.Views.{Empty, keeps, pass_view_of, is_pass, is_main, main_view_of, opened_by, without_item}
 use Rattle.board_rule.specs.Plays.{Seated}
 use Rattle.vertex_claims.specs.Held.{Ready, Shuffled, slot_at, knows}
-use Rattle.board_rule.specs.declared.data.VersionedStar.{VersionedStar}
+use Rattle.board_rule.specs.Homes.{VersionedStar}
 use Rattle.board_rule.specs.declared.data.Slot.{Slot}
 use Rattle.board_rule.specs.declared.data.Slot.TheVariants.{Out}
 use Rattle.board_rule.specs.declared.view.PassView.{PassView}

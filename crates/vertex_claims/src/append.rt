@@ -4,7 +4,7 @@ ghost use Rattle.std.specs.List.{AllByRecursion};
 ghost use Rattle.atomic_table.specs.Table.{rest};
 ghost use Rattle.flip_rules.specs.Flips.{OfFaces};
 ghost use Rattle.board_rule.specs.Books.{Book};
-ghost use Rattle.board_rule.specs.declared.data.VersionedStar.{VersionedStar};
+ghost use Rattle.board_rule.specs.Homes.{VersionedStar};
 ghost use Rattle.vertex_claims.specs.Passes.{board_id};
 
 use crate::board::Board;
@@ -54,7 +54,7 @@ pub(crate) fn version_in(seat: &mut Seat<Slot, View>, board: &Board, place: u16)
     ensures version { (x : VersionedStar) → seat.old.me.1 ≡ (place, Slot.Home x) ∷ rest seat.old.me.1 → result ≡ x.version }
 {
     match seat.slot_mut(&board.table.shared, usize::from(place)) {
-        Slot::Home(home) => home.version,
+        Slot::Home(home) => home.version(),
         _ => unreachable!(),
     }
 }

@@ -69,7 +69,7 @@ impl Pass {
     ghost use Rattle.board_rule.specs.Items.{item, has_item};
     ghost use Rattle.board_rule.specs.Views.{keeps, Empty, opened_by, lost_by, with_item, with_journal, counted, without_item, without_journal, committed};
     ghost use Rattle.board_rule.specs.Plays.{IsRefused};
-    ghost use Rattle.board_rule.specs.declared.data.VersionedStar.{VersionedStar};
+    ghost use Rattle.board_rule.specs.Homes.{VersionedStar};
     ghost use Rattle.vertex_claims.specs.Passes.{IsOf, IsSame, know, slot, Puts, SameSlots, spare, limit, marks_left, places_on, entry_of};
 
     /// Its number, from 1.

@@ -1,4 +1,4 @@
-use Rattle.std.proofs.Common.{◌≡◌, ◌≤◌, ◌+◌, ◌++◌, take, vec_len, vec_capacity}
+use Rattle.std.proofs.Common.{◌≡◌, ◌++◌, take, vec_capacity}
 use Rattle.std.specs.List.Sorted.{IsStrictlySortedBy}
 use Rattle.complex_core.specs.Labels.{face_cmp}
 use Rattle.complex_core.specs.Rising.{rising}
@@ -8,6 +8,5 @@ abbrev pub invariant-loop-set : goal.invariant-loop-set
 invariant-loop-set l = record {
   items : l.sets.items ≡ rising face_cmp (l.fn.sets.items ++ take l.set-index l.more);
   rising : IsStrictlySortedBy face_cmp l.sets.items;
-  len : vec_len l.sets ≤ vec_len l.fn.sets + l.set-index;
   capacity : vec_capacity l.sets ≡ vec_capacity l.fn.sets;
 }

@@ -1,7 +1,10 @@
 use Rattle.std.proofs.Common.{◌∙◌, refl}
+use mathlib.Core.Option.{some}
+use Rattle.board_rule.specs.Views.{home}
+use Rattle.board_rule.specs.declared.data.Slot.TheVariants.{Home}
 use Rattle.vertex_claims.specs.Passes.{know}
 use Rattle.held_stars.proofs.GivenUp.{held_of, not_held}
-use Rattle.held_stars.proofs.Claims.{claimed, going_claimed, ends_refused, ends_quit, ok_any, err_quit, here_now}
+use Rattle.held_stars.proofs.Claims.{puts_both, put_here, found_vertex, first_held, claimed, going_claimed, ends_refused, ends_quit, ok_any, err_quit, here_now}
 use Rattle.held_stars.proofs.Gates.{follows_self, follows_then, keeps_self, keeps_claimed, same_noted, noted_refused, noted_won}
 use Rattle.held_stars.proofs.claiming.claim_label.Goals as goal
 
@@ -18,19 +21,36 @@ returns-in-Err-clause-ends g c = λ s now going label made.
     (ends_refused s c.args.pass.now c.claim.new.self c.args.hold.now now c.args.label c.in-Err.field-0.owner going made c.requires.label.0
     (not_held (know c.args.pass.now) c.args.label c.holds.result c.args.pass.now.sees c.holds.ensures c.if-holds.false) label lost.1 lost.2 lost.3)
 
+pub lend-requires-clause-star : goal.lend-requires-clause-star
+lend-requires-clause-star g c = let won = c.in-Ok.ensures.star c.requires.label.0 in (won.0, put_here c.args.pass.now c.claim.new.self c.args.label (some (Home won.0)) won.3, found_vertex (know c.args.pass.now) c.claim.new.self c.args.label won.0 won.1 won.2)
+
+pub lend-requires-clause-rising : goal.lend-requires-clause-rising
+lend-requires-clause-rising g c = c.requires.going.3.held.rising
+
+pub lend-requires-clause-fresh : goal.lend-requires-clause-fresh
+lend-requires-clause-fresh g c = c.requires.going.3.held.each c.args.label ∙ not_held (know c.args.pass.now) c.args.label c.holds.result c.args.pass.now.sees c.holds.ensures c.if-holds.false
+
 pub returns-in-Ok-clause-going : goal.returns-in-Ok-clause-going
 returns-in-Ok-clause-going g c = λ s now going label made.
     let won = c.in-Ok.ensures.star c.requires.label.0 in
+    let here = put_here c.args.pass.now c.claim.new.self c.args.label (some (Home won.0)) won.3 in
+    let out = c.lend.ensures.slots won.0 here in
+    let known = c.lend.ensures.known ∙ won.2 in
     let free = not_held (know c.args.pass.now) c.args.label c.holds.result c.args.pass.now.sees c.holds.ensures c.if-holds.false in
-    let more = claimed c.args.pass.now c.claim.new.self c.args.hold.now _ now c.args.label won.0 won.1 made won.2 won.3 free refl refl c.push_reserved.ensures.items refl in
-    ok_any c.ask.result (more.complex, going_claimed s (know c.args.pass.now) (know c.claim.new.self) c.args.label won.0 won.1 going won.2 free label, more.made, more.stars s.place (Rattle.held_stars.proofs.Claims.first_held s (know c.args.pass.now) going))
+    let more = claimed c.args.pass.now c.lend.new.pass c.args.hold.now.flips.items c.args.hold.now.lent.items c.lend.new.lent.items now c.args.label won.0 won.1 out.0 made known
+    (puts_both c.args.pass.now c.claim.new.self c.lend.new.pass c.args.label (some (Home won.0)) (some (Home (home out.0 won.0.version))) won.3 out.1) free (c.lend.ensures.lent won.0 here) in
+    ok_any c.ask.result (more.complex, going_claimed s (know c.args.pass.now) (know c.lend.new.pass) c.args.label won.0 won.1 going known free label, more.made, more.stars s.place (first_held s (know c.args.pass.now) going))
 
 pub returns-in-Ok-clause-ends : goal.returns-in-Ok-clause-ends
 returns-in-Ok-clause-ends g c = λ s now going label made.
     let won = c.in-Ok.ensures.star c.requires.label.0 in
+    let here = put_here c.args.pass.now c.claim.new.self c.args.label (some (Home won.0)) won.3 in
+    let out = c.lend.ensures.slots won.0 here in
+    let known = c.lend.ensures.known ∙ won.2 in
     let free = not_held (know c.args.pass.now) c.args.label c.holds.result c.args.pass.now.sees c.holds.ensures c.if-holds.false in
-    let more = claimed c.args.pass.now c.claim.new.self c.args.hold.now _ now c.args.label won.0 won.1 made won.2 won.3 free refl refl c.push_reserved.ensures.items refl in
-    err_quit _ _ c.ask.result c.ask.ensures.quit (λ answer is. ends_quit s c.claim.new.self _ more.complex answer (going_claimed s (know c.args.pass.now) (know c.claim.new.self) c.args.label won.0 won.1 going won.2 free label) more.made is)
+    let more = claimed c.args.pass.now c.lend.new.pass c.args.hold.now.flips.items c.args.hold.now.lent.items c.lend.new.lent.items now c.args.label won.0 won.1 out.0 made known
+    (puts_both c.args.pass.now c.claim.new.self c.lend.new.pass c.args.label (some (Home won.0)) (some (Home (home out.0 won.0.version))) won.3 out.1) free (c.lend.ensures.lent won.0 here) in
+    err_quit _ _ c.ask.result c.ask.ensures.quit (λ answer is. ends_quit s c.lend.new.pass _ more.complex answer (going_claimed s (know c.args.pass.now) (know c.lend.new.pass) c.args.label won.0 won.1 going known free label) more.made is)
 
 pub returns-then-holds-clause-heard : goal.returns-then-holds-clause-heard
 returns-then-holds-clause-heard g c = follows_self _ _ (keeps_self _ _ _ _ _ refl refl refl)
@@ -42,4 +62,4 @@ returns-in-Err-clause-heard g c =
 pub returns-in-Ok-clause-heard : goal.returns-in-Ok-clause-heard
 returns-in-Ok-clause-heard g c =
     let won = c.in-Ok.ensures.star c.requires.label.0 in
-    follows_then _ _ _ _ c.ask.ensures.heard (keeps_claimed _ _ _ _ _ (same_noted _ _ won.2 ∙ noted_won _ _ _ c.args.label won.0 c.requires.going.2.noting.tries) refl)
+    follows_then _ _ _ _ c.ask.ensures.heard (keeps_claimed _ _ _ _ _ (same_noted _ _ (c.lend.ensures.known ∙ won.2) ∙ noted_won _ _ _ c.args.label won.0 c.requires.going.2.noting.tries) refl)

@@ -14,9 +14,8 @@ abbrev pub invariant-loop-label : goal.invariant-loop-label
 invariant-loop-label g l =
     IsSame l.fn.pass l.pass
     × (l.hold.flips.items ≡ l.fn.hold.flips.items)
-    × (l.hold.copies.items ≡ l.fn.hold.copies.items)
     × Roomy l.hold
-    × (length l.hold.places.items ≤ length l.fn.hold.places.items + l.label-index)
+    × (length l.hold.lent.items ≤ length l.fn.hold.lent.items + l.label-index)
     × ((q : ℕ) → has (take l.label-index l.labels) q ≡ true → has_item (know l.pass).items q ≡ true)
     × ((s : StartedTry) (now : ComplexView) → Going s (know l.fn.pass) → ((q : ℕ) → has l.labels q ≡ true → flips_touch q s.flips ≡ true) → Made l.fn.pass l.fn.hold now
     → (m : ComplexView) × Going s (know l.pass) × Made l.pass l.hold m × (star_in m s.place ≡ star_in now s.place))

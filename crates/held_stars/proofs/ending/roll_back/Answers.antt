@@ -1,20 +1,35 @@
-use Rattle.std.proofs.Common.{◌∙◌, refl}
-use Rattle.held_stars.proofs.LentStars.{same_passes}
-use Rattle.held_stars.proofs.GivenUp.{restored_one, copy_slot}
+use Rattle.std.proofs.Common.{◌∙◌, sym, ap, subst, rules}
+use Rattle.stars.specs.StarViews.{shown, rooms, counts, EachAtMost, HasLabels}
+use Rattle.stars.specs.FlipsHere.{stars_flipped}
+use Rattle.held_stars.proofs.MadeFlips.{Before, before, near_stars, flip_undone, settled}
 use Rattle.held_stars.proofs.ending.roll_back.Goals as goal
 
-pub swap_star-changed-requires-clause-star : goal.swap_star-changed-requires-clause-star
-swap_star-changed-requires-clause-star c = copy_slot c.loop-star.pass c.loop-star.hold c.loop-star.hold c.pop.new.self.items c.in-Some.star c.vertex-place.result c.loop-star.invariant.2 c.in-Some.ensures.items c.vertex-place.ensures.vertex
+pub undo_here-requires-clause-stars : goal.undo_here-requires-clause-stars
+undo_here-requires-clause-stars c =
+    let r = c.requires.restorable in
+    let m = c.loop-flip.invariant.0 r.0 r.1 in
+    (m.0, near_stars r.0 _ _ _ m.0 m.1 c.deref_mut.ensures.value, (before r.0 _ c.pop.new.self.items c.in-Some.flip _ m.0 m.1 c.in-Some.ensures.items).legal)
 
-pub loop-star-preserved : goal.loop-star-preserved
-loop-star-preserved c =
-    let i = c.loop-star.invariant in
-    let s = c.swap_star-changed.ensures in (
-      same_passes c.args.pass.now c.loop-star.pass c.swap_star-changed.new.pass i.0 s.same,
-      s.known.0 ∙ i.1,
-      restored_one c.loop-star.pass c.swap_star-changed.new.pass c.loop-star.hold _ c.in-Some.star c.vertex-place.result i.2 c.in-Some.ensures.items c.vertex-place.ensures.vertex s.known.0 s.slots refl,
-      i.3,
-      i.4,
-      i.5,
-      c.pop.ensures.capacity ∙ i.6,
-    )
+pub undo_here-requires-clause-held : goal.undo_here-requires-clause-held
+undo_here-requires-clause-held c =
+    let r = c.requires.restorable in
+    let m = c.loop-flip.invariant.0 r.0 r.1 in
+    subst (λ l. HasLabels (shown l) c.in-Some.flip) (sym c.deref_mut.ensures.value) (before r.0 _ c.pop.new.self.items c.in-Some.flip _ m.0 m.1 c.in-Some.ensures.items).labels
+
+pub undo_here-requires-clause-room : goal.undo_here-requires-clause-room
+undo_here-requires-clause-room c =
+    let r = c.requires.restorable in
+    let m = c.loop-flip.invariant.0 r.0 r.1 in
+    subst (λ l. EachAtMost (counts (stars_flipped (shown l) c.in-Some.flip.b c.in-Some.flip.a)) (rooms l)) (sym c.deref_mut.ensures.value) (before r.0 _ c.pop.new.self.items c.in-Some.flip _ m.0 m.1 c.in-Some.ensures.items).room
+
+pub loop-flip-preserved : goal.loop-flip-preserved
+loop-flip-preserved c = (
+  (λ pass r.
+      let m = c.loop-flip.invariant.0 pass r in
+      flip_undone pass _ c.pop.new.self.items c.in-Some.flip _ _ c.undo_here.new.near _ m.0 m.1 c.in-Some.ensures.items c.deref_mut.ensures.value c.undo_here.ensures.stars c.undo_here.ensures.rooms c.loop-flip.hold.lent.ok.0),
+  c.pop.ensures.capacity ∙ c.loop-flip.invariant.1,
+  c.loop-flip.invariant.2,
+)
+
+pub returns-clause-settles : goal.returns-clause-settles
+returns-clause-settles c = λ pass r. let m = c.loop-flip.invariant.0 pass r in settled pass _ _ m.0 m.1 (search rules)

@@ -22,5 +22,5 @@ add_candidates-requires-2 t c =
 pub returns : goal.returns
 returns t c =
     let is : c.unwrap-more.result ≡ with c.args.face.now c.in-Some.label.now = (search rules) in
-    on_ok_weaker c.add_candidates-2.result (adds_both (belongs c.args.star.now c.args.index) c.args.face.now c.args.labels.now c.in-Some.rest.now c.unwrap-more.result c.in-Some.label.now c.args.others c.args.all.now.items c.add_candidates.new.all.items c.add_candidates-2.new.all.items c.requires.face c.in-Some.ensures.cases.0 is c.if-others-eq0.false c.in_ok-add_candidates.ensures)
+    on_ok_weaker c.add_candidates-2.result (adds_both (belongs c.args.star.now.star c.args.index) c.args.face.now c.args.labels.now c.in-Some.rest.now c.unwrap-more.result c.in-Some.label.now c.args.others c.args.all.now.items c.add_candidates.new.all.items c.add_candidates-2.new.all.items c.requires.face c.in-Some.ensures.cases.0 is c.if-others-eq0.false c.in_ok-add_candidates.ensures)
     c.add_candidates-2.ensures

@@ -21,11 +21,11 @@ loop-place-preserved c =
       long = length-set c.loop-place.lists.items c.loop-place.place c.decide.new.self ∙ c.loop-place.invariant.long;
       half = λ old h a w.
           let f : Fits old (get_or c.loop-place.lists.items c.loop-place.place l) = (c.loop-place.invariant.half old h a w).left c.loop-place.place l (omega arith) inside in
-          halfway_goes_on old c.args.star.now c.loop-place.place c.loop-place.lists.items c.decide.new.self inside (c.loop-place.invariant.half old h a w)
-          (decided old c.args.star.now c.args.labels.now l (get_or c.loop-place.lists.items c.loop-place.place l) c.decide.new.self h c.decide.ensures.star c.requires.labels w c.index_mut.ensures.value f c.decide.ensures.index (search rules));
+          halfway_goes_on old c.args.star.now.star c.loop-place.place c.loop-place.lists.items c.decide.new.self inside (c.loop-place.invariant.half old h a w)
+          (decided old c.args.star.now.star c.args.labels.now l (get_or c.loop-place.lists.items c.loop-place.place l) c.decide.new.self h c.decide.ensures.star c.requires.labels w c.index_mut.ensures.value f c.decide.ensures.index (search rules));
     }
 
 pub returns : goal.returns
 returns c =
     let old : VertexStar = c.requires.lists.0 in
-    halfway_ends old c.args.star.now c.loop-place.place c.loop-place.lists.items (search rules) (c.loop-place.invariant.half old c.requires.lists.1 c.requires.lists.2 c.requires.lists.3)
+    halfway_ends old c.args.star.now.star c.loop-place.place c.loop-place.lists.items (search rules) (c.loop-place.invariant.half old c.requires.lists.1 c.requires.lists.2 c.requires.lists.3)

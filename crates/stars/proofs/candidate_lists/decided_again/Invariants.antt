@@ -8,5 +8,5 @@ use Rattle.stars.proofs.candidate_lists.decided_again.Given as goal
 abbrev pub invariant-loop-place : goal.invariant-loop-place
 invariant-loop-place l = record {
   long : length l.lists.items ≡ length l.fn.lists.items;
-  half : (old : VertexStar) → IsStar old → AreLists old l.fn.lists.items → ChangedWithin l.labels old l.star → Halfway old l.star l.place l.lists.items;
+  half : (old : VertexStar) → IsStar old → AreLists old l.fn.lists.items → ChangedWithin l.labels old l.star.star → Halfway old l.star.star l.place l.lists.items;
 }

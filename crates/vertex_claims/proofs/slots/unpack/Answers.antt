@@ -4,9 +4,10 @@ use mathlib.Core.Logic.{dite}
 use native.Mathlib.Decide.{ℕ_discrete}
 use lib.ListN.{get_elem?}
 use Rattle.std.specs.Slots.{slots_filled, slots_counts}
+use Rattle.stars.proofs.Shown.{shown_more}
 use Rattle.stars.specs.Building.{stars_of}
 use Rattle.board_rule.specs.Views.{star_in, home_at}
-use Rattle.board_rule.specs.declared.data.VersionedStar.{VersionedStar}
+use Rattle.board_rule.specs.Homes.{VersionedStar}
 use Rattle.board_rule.specs.declared.data.Slot.{Slot}
 use Rattle.board_rule.specs.declared.data.Slot.TheVariants.{Home}
 use Rattle.vertex_claims.proofs.Ends.{stars_next, same_home}
@@ -31,8 +32,6 @@ loop-p-preserved c =
     let s0 = sizes.0 in
     let s1 = sizes.1 in
     let flags = took.others.1 in
-    let star = c.in-Home.home.star in
-    let items = c.push_reserved.ensures.items in
     record {
       same = took.others.0 ∙ inv.same;
       long = took.others.2 ∙ inv.long;
@@ -46,9 +45,9 @@ loop-p-preserved c =
           let at = homes (p + 1) (omega arith) (omega arith) in
           let found : Home c.in-Home.home ≡ Home (home_at k entries (p + 1)) = sym c.in-Home.is ∙ some-injective _ _ (sym took.value ∙ (ap (λ (l : List Slot). get_elem? l (p + 1)) inv.same ∙ at)) in
           let home_is = same_home c.in-Home.home (home_at k entries (p + 1)) (ap (λ (x : Slot). some x) found) in
-          let star_is : star ≡ star_in k (p + 1) = ap (λ (h : VersionedStar). h.star) home_is in
+          let star_is : c.into_parts-star.result.0.star ≡ star_in k (p + 1) = c.into_parts-star.ensures.star ∙ ap (λ (h : VersionedStar). h.star) home_is in
           let next : suc p ≡ p + 1 = omega arith in
-          items ∙ ((λ i. inv.stars k entries homes i ++ star_is i ∷ []) ∙ (sym (stars_next k.dim k.facets 0 p (p + 1) (omega arith)) ∙ ap (stars_of k.dim k.facets 0) next));
+          shown_more c.loop-p.stars.items c.push_reserved.new.self.items c.into_parts-star.result.0 c.push_reserved.ensures.items ∙ ((λ i. inv.stars k entries homes i ++ star_is i ∷ []) ∙ (sym (stars_next k.dim k.facets 0 p (p + 1) (omega arith)) ∙ ap (stars_of k.dim k.facets 0) next));
     }
 
 pub returns-clause-stars : goal.returns-clause-stars

@@ -3,4 +3,4 @@ use Rattle.stars.specs.Building.{first_rows}
 use Rattle.stars.proofs.map.StarMap.complex.Given as goal
 
 abbrev pub invariant-loop-star : goal.invariant-loop-star
-invariant-loop-star l = l.facets.items ≡ flat_map first_rows (take l.star-index l.star-items)
+invariant-loop-star l = l.facets.items ≡ flat_map (λ s. first_rows s.star) (take l.star-index l.star-items)

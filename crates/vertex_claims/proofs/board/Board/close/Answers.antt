@@ -2,7 +2,7 @@ use Rattle.std.proofs.Common.{◌≡◌, ℕ, List, ap, sym, ◌∙◌, subst, a
 use Rattle.atomic_table.specs.Table.{Final, Seen}
 use Rattle.flip_rules.specs.Journals.{flat}
 use Rattle.flip_rules.proofs.Replays.{replay_dim}
-use Rattle.stars.specs.StarViews.{VertexStar, AreNumbered}
+use Rattle.stars.specs.StarViews.{VertexStar, AreNumbered, shown}
 use Rattle.stars.specs.Building.{stars_of}
 use Rattle.board_rule.specs.Rule.{Ruled}
 use Rattle.board_rule.specs.Ends.{AllBack, Closes}
@@ -14,6 +14,7 @@ use Rattle.vertex_claims.specs.declared.main_seat.Main.{Main}
 use Rattle.vertex_claims.proofs.Ends.{is_end, numbered_stars}
 use Rattle.vertex_claims.proofs.Seats.{is_a_main}
 use Rattle.vertex_claims.proofs.board.Board.close.Goals as goal
+use Rattle.stars.proofs.Finding.{length-shown}
 use Rattle.stars.proofs.Placing.{length-stars_of}
 
 -- what the rule says at the end
@@ -43,7 +44,7 @@ from_stars-requires-clause-few c =
     let told = c.args.self.told in
     let places = c.from-2.ensures in
     let stars = c.unpack-journal.ensures.stars x.now x.book.entries (λ p pos near. x.stars p pos (omega arith)) in
-    omega (arith, ap length stars, length-stars_of x.now.dim x.now.facets 0 c.from-2.result)
+    omega (arith, ap length stars, length-shown c.unpack-journal.result.1.items, length-stars_of x.now.dim x.now.facets 0 c.from-2.result)
 
 pub from_stars-requires-clause-numbered : goal.from_stars-requires-clause-numbered
 from_stars-requires-clause-numbered c =
@@ -51,7 +52,7 @@ from_stars-requires-clause-numbered c =
     let told = c.args.self.told in
     let places = c.from-2.ensures in
     let stars = c.unpack-journal.ensures.stars x.now x.book.entries (λ p pos near. x.stars p pos (omega arith)) in
-    numbered_as c.unpack-journal.result.1.items x.now.dim c.args.self.dim x.now.facets c.from-2.result stars (same_dim c.args.self c.args.main _ x ∙ told.3)
+    numbered_as (shown c.unpack-journal.result.1.items) x.now.dim c.args.self.dim x.now.facets c.from-2.result stars (same_dim c.args.self c.args.main _ x ∙ told.3)
 
 pub returns : goal.returns
 returns c =

@@ -1,7 +1,7 @@
 use Rattle.std.proofs.Common.{◌+◌, ℕ, List, ap, sym, ◌∙◌, subst}
 use lib.ListN.{replicate}
 use Rattle.complex_core.specs.Complexes.{ComplexView}
-use Rattle.stars.specs.StarViews.{UsesUpTo, IsStarListOf}
+use Rattle.stars.specs.StarViews.{UsesUpTo, IsStarListOf, shown}
 use Rattle.board_rule.specs.declared.setup.Setup.{Setup}
 use Rattle.board_rule.proofs.Keeps.{opens}
 use Rattle.vertex_claims.proofs.Ends.{may_open}
@@ -14,7 +14,7 @@ new-requires c =
     let start = sym c.of-2.ensures in
     let made = c.in_ok-slots.ensures in
     let zeros : ℕ → List ℕ = λ k. replicate (k + 1) 0 in
-    opens setup _ _ (may_open setup _ _ m c.into_stars-stars.result.items made.0
+    opens setup _ _ (may_open setup _ _ m (shown c.into_stars-stars.result.items) made.0
     (subst (λ (k : ComplexView). IsStarListOf k m) start c.in_ok-of.ensures.stars)
     c.in_ok-of.ensures.places
     c.into_stars-stars.ensures

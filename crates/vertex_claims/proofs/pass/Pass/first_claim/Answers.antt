@@ -3,7 +3,7 @@ use Rattle.complex_core.specs.Complexes.{ComplexView}
 use Rattle.board_rule.specs.Tries.{won_try, lost_try}
 use Rattle.board_rule.specs.Views.{keeps, opened_by, lost_by}
 use Rattle.board_rule.specs.Plays.{Seated}
-use Rattle.board_rule.specs.declared.data.VersionedStar.{VersionedStar}
+use Rattle.board_rule.specs.Homes.{VersionedStar}
 use Rattle.board_rule.specs.declared.data.Slot.TheVariants.{Home}
 use Rattle.board_rule.specs.declared.view.View.TheVariants.{Pass}
 use Rattle.vertex_claims.specs.declared.mark.Found.TheVariants.{Won}

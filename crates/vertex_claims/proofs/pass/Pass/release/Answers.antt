@@ -4,7 +4,7 @@ use Rattle.atomic_table.specs.Table.{rest}
 use Rattle.board_rule.specs.Items.{item}
 use Rattle.board_rule.specs.Views.{keeps, pass_view_of, is_pass, without_item}
 use Rattle.board_rule.specs.Plays.{Seated, Sees}
-use Rattle.board_rule.specs.declared.data.VersionedStar.{VersionedStar}
+use Rattle.board_rule.specs.Homes.{VersionedStar}
 use Rattle.board_rule.specs.declared.data.Slot.TheVariants.{Home}
 use Rattle.board_rule.specs.declared.view.View.{View}
 use Rattle.board_rule.proofs.Items.{tested}

@@ -1,0 +1,11 @@
+pub mod Images
+pub mod Neighbours
+pub mod Counted
+pub mod Stepping
+pub mod Trying
+pub mod Mapping
+pub mod Ordered
+pub mod Tables
+pub mod Walking
+pub mod Least
+pub mod Determined
