@@ -9,13 +9,7 @@ room=$(mktemp -d)
 trap 'rm -rf "$room"' EXIT
 "$top/bistellar" replay <"$top/examples/tetrahedron.txt" >/dev/null
 plan() {
-    case $1 in
-    2) echo --rounds 1000 --tries 250 --heat 15 --relax 235 --depth 1 --room 16 ;;
-    3) echo --rounds 2500 --tries 100 --heat 6 --relax 94 --depth 2 --room 16 ;;
-    4) echo --rounds 500 --tries 500 --heat 30 --relax 470 --depth 1 --room 16 ;;
-    5) echo --rounds 500 --tries 500 --heat 65 --relax 435 --depth 2 --room 1 ;;
-    6) echo --rounds 500 --tries 500 --heat 100 --relax 400 --depth 3 --room 1 ;;
-    esac
+    PYTHONPATH="$top/benchmarks" python3 -c "import plan; print(plan.PLANS[$1])"
 }
 search() {
     kind=$1 dim=$2 count=$3

@@ -2,11 +2,16 @@
 # How fast spheres are found: spheres whose numbers of facets double, by 1, 2 and 4 workers. A descent leads the subdivided ones down a part of
 # the way, and the joins not at all.
 # Usage: benchmarks/sphere.sh [OPTION ..], with options of `sphere` such as --rounds and --tries
+#        benchmarks/sphere.sh --beside OTHER [FACETS [SEEDS]], with another program for the same words: both in turn, with one worker
 set -eu
 top=$(CDPATH= cd -- "$(dirname -- "$0")/.." && pwd)
 room=$(mktemp -d)
 trap 'rm -rf "$room"' EXIT
 "$top/bistellar" replay <"$top/examples/tetrahedron.txt" >/dev/null
+if [ "${1:-}" = --beside ]; then
+    shift
+    exec python3 "$top/benchmarks/beside.py" "$top/crates/bistellar/out/bistellar" "$@"
+fi
 search() {
     kind=$1 dim=$2 facets=$3
     shift 3
