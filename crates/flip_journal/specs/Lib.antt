@@ -1,0 +1,3 @@
+-- Lists of flips.
+pub mod Carried
+pub mod Laws
