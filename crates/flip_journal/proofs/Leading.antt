@@ -4,6 +4,7 @@ use Rattle.std.specs.List.{AllByRecursion, flat_map}
 use Rattle.std.proofs.lemmas.List.{drop_more, take-append-drop, take_all}
 use Rattle.std.proofs.lemmas.Cmp.{nat_cmp_total}
 use Rattle.std.proofs.lemmas.List.{length-append}
+use Rattle.std.proofs.lemmas.Option.{same_Some}
 use Rattle.complex_core.specs.Labels.{has}
 use Rattle.complex_core.specs.Complexes.{ComplexView, IsComplex}
 use Rattle.complex_core.specs.Maps.{IsMap, Differ, takes, reaches, at, face_image, image, turned, used, renamed}
@@ -15,7 +16,7 @@ use Rattle.complex_core.proofs.Places.{at_back}
 use Rattle.complex_core.proofs.SetLists.{used_label}
 use Rattle.flip_rules.specs.declared.flip.Flip.{Flip}
 use Rattle.flip_rules.specs.Flips.{OfFaces, broken_rule, flipped, replay}
-use Rattle.flip_rules.proofs.Replays.{first_flip, replay_split}
+use Rattle.flip_rules.proofs.Replays.{complex_replayed, first_flip, replay-append, replay_split, replays_back}
 use Rattle.flip_names.specs.Names.{named_flip, takes_flip}
 use Rattle.complex_core.proofs.Members.{each_push, taken_more}
 use Rattle.flip_rules.specs.Laws.{inverse_list}
@@ -24,7 +25,7 @@ use Rattle.flip_names.proofs.Back.{back_is_map, renamed_back}
 use Rattle.flip_names.proofs.Faces.{renamed_is_complex}
 use Rattle.flip_names.proofs.Images.{in_image, image_has, image_listed, listed_image}
 use Rattle.flip_journal.specs.Carried.{NamesLabels, IsLegalList, LeadsTo, carried, vanishes, names_for, names_after, names_at_end, carried_over, map_at_end}
-use Rattle.flip_journal.specs.Laws.{InverseIsAsLong, CarriedLeads}
+use Rattle.flip_journal.specs.Laws.{InverseIsAsLong, CarriedJoins, CarriedLeads}
 use Rattle.flip_journal.proofs.Kept.{has-firsts, firsts_rise}
 use Rattle.flip_journal.proofs.Labels.{used_found}
 use Rattle.flip_journal.proofs.Carrying.{Names, Carries, carries, flip_taken, names_rename}
@@ -85,6 +86,23 @@ carried_leads k m flips c h e faces lawful =
 pub inverse_is_as_long : InverseIsAsLong
 inverse_is_as_long [] = refl
 inverse_is_as_long (f ∷ fs) = length-append (inverse_list fs) (record { a = f.b; b = f.a } ∷ []) ∙ omega (arith, inverse_is_as_long fs)
+
+inverse_faces : (fs : List Flip) → AllByRecursion OfFaces fs → AllByRecursion OfFaces (inverse_list fs)
+inverse_faces [] h = tt
+inverse_faces (f ∷ fs) h = each_push OfFaces (inverse_list fs) (record { a = f.b; b = f.a }) (inverse_faces fs h.1) (record { first = h.0.second; second = h.0.first })
+
+pub carried_joins : CarriedJoins
+carried_joins k l end last m flips others ck cl faces more e f h labels image =
+    let back : replay (renamed end m) (inverse_list others) ≡ Some l = ap (λ n. replay n (inverse_list others)) image ∙ replays_back l last others cl more f in
+    let r : LeadsTo end m (inverse_list others) (carried_over m (inverse_list others)) (map_at_end m (inverse_list others)) =
+    carried_leads end m (inverse_list others) (complex_replayed k end flips ck faces e) h labels (inverse_faces others more) (l, back) in
+    record {
+      there = r.there;
+      replays = replay-append k end flips (carried_over m (inverse_list others)) e ∙ r.carried;
+      is_map = r.is_map;
+      labels = r.labels;
+      image = r.image ∙ same_Some r.end l (sym r.given ∙ back);
+    }
 
 -- ---- flips so far
 
