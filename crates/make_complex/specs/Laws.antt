@@ -1,4 +1,4 @@
--- The laws of the named complexes, and of what draws make.
+-- The laws of the named complexes, and of the labels that draws bring in.
 use Rattle.std.specs.Prelude.{◌≡◌, ◌≤◌, ◌<◌, ◌+◌, ℕ, true, false, List, length}
 use Rattle.complex_core.specs.Labels.{has}
 use Rattle.complex_core.specs.Maps.{used}

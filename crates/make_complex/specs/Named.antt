@@ -1,7 +1,9 @@
 -- The named complexes.
-use Rattle.std.specs.Prelude.{ℕ, zero, suc, ◌+◌, ◌-◌, ◌*◌, ◌%◌, List, [], ◌∷◌, ◌++◌, map}
+use Rattle.std.specs.Prelude.{Bool, true, false, ℕ, zero, suc, ◌+◌, ◌-◌, ◌*◌, ◌%◌, List, [], ◌∷◌, ◌++◌, map}
 use Rattle.std.specs.List.{flat_map}
 use Rattle.std.specs.Ordering.{nat_cmp}
+use lib.IntN.{ℤ, pos, ◌+ℤ◌}
+use Rattle.face_counts.specs.Eulers.{power}
 use Rattle.complex_core.specs.Labels.{with, face_cmp}
 use Rattle.complex_core.specs.Rising.{rising}
 use Rattle.complex_core.specs.Maps.{next_after}
@@ -52,3 +54,17 @@ named_facets Plane d = plane_facets
 -- the named complex of a kind and a dimension
 abbrev pub named_complex : Kind → ℕ → ComplexView
 named_complex kind d = record { dim = d; facets = named_facets kind d }
+
+-- the Euler characteristics: 1 + (-1)^d of a sphere, 0 of the torus, 1 of the projective plane
+abbrev pub named_euler : Kind → ℕ → ℤ
+named_euler Simplex d = pos 1 +ℤ power d
+named_euler Cross d = pos 1 +ℤ power d
+named_euler Torus d = pos 0
+named_euler Plane d = pos 1
+
+-- all but the projective plane are orientable
+abbrev pub is_orientable : Kind → Bool
+is_orientable Simplex = true
+is_orientable Cross = true
+is_orientable Torus = true
+is_orientable Plane = false

@@ -1,12 +1,14 @@
 //! The generator: a named complex, and draws on it.
 
-ghost use Rattle.std.specs.Prelude.{◌≡◌, ◌≤◌, true, IfOk, length};
+ghost use Rattle.std.specs.Prelude.{◌≡◌, ◌≤◌, ◌↔◌, IsTrue, true, IfOk, length};
 ghost use Rattle.stars.specs.StarViews.{UsesUpTo};
 ghost use Rattle.pseudo_test.specs.Ridges.{Closed};
-ghost use Rattle.flip_laws.specs.Keeping.{Keeps};
+ghost use Rattle.pseudo_test.specs.Chains.{StronglyConnected};
+ghost use Rattle.face_counts.specs.Eulers.{euler};
+ghost use Rattle.orient_test.specs.Signs.{Orientable};
 ghost use Rattle.make_complex.specs.Kinds.{is_surface};
 ghost use Rattle.make_complex.specs.Draws.{made_complex};
-ghost use Rattle.make_complex.specs.Named.{named_complex};
+ghost use Rattle.make_complex.specs.Named.{named_euler, is_orientable};
 
 use crate::Kind;
 use crate::draws::{MOST_LABELS, draw};
@@ -31,14 +33,13 @@ pub fn make(
     requires surface { is_surface kind ≡ true → dim ≡ 2 }
     requires draws { draws ≤ 100000 }
     ensures made { IfOk result (λ k. k ≡ made_complex kind dim draws seed) }
-    ensures closed { IfOk result (λ k. Closed k.facets) }
     ensures facets { IfOk result (λ k. length k.facets ≤ 20000) }
     ensures labels { IfOk result (λ k. UsesUpTo k 4096) }
     ensures dim { IfOk result (λ k. k.dim ≡ dim) }
-
-    // Flips lead from the named complex to it, so it has the same Euler characteristic, and is strongly connected
-    // or orientable exactly where the named one is.
-    ensures keeps { IfOk result (λ k. Keeps (named_complex kind dim) k) }
+    ensures closed { IfOk result (λ k. Closed k.facets) }
+    ensures strong { IfOk result (λ k. StronglyConnected k.facets) }
+    ensures euler { IfOk result (λ k. euler k.facets ≡ named_euler kind dim) }
+    ensures orientable { IfOk result (λ k. Orientable k.facets ↔ IsTrue (is_orientable kind)) }
 {
     let mut complex = named(alloc, kind, dim)?;
     let mut stars = StarMap::of(alloc, &complex, MOST_LABELS)?;
