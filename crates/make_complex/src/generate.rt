@@ -1,6 +1,7 @@
 //! The generator: a named complex, and draws on it.
 
 ghost use Rattle.std.specs.Prelude.{◌≡◌, ◌≤◌, ◌↔◌, IsTrue, true, IfOk, length};
+ghost use Rattle.complex_core.specs.Maps.{used};
 ghost use Rattle.stars.specs.StarViews.{UsesUpTo};
 ghost use Rattle.pseudo_test.specs.Ridges.{Closed};
 ghost use Rattle.pseudo_test.specs.Chains.{StronglyConnected};
@@ -34,7 +35,8 @@ pub fn make(
     requires draws { draws ≤ 100000 }
     ensures made { IfOk result (λ k. k ≡ made_complex kind dim draws seed) }
     ensures facets { IfOk result (λ k. length k.facets ≤ 20000) }
-    ensures labels { IfOk result (λ k. UsesUpTo k 4096) }
+    ensures labels { IfOk result (λ k. length (used k.facets) ≤ 4096) }
+    ensures greatest { IfOk result (λ k. UsesUpTo k 4096) }
     ensures dim { IfOk result (λ k. k.dim ≡ dim) }
     ensures closed { IfOk result (λ k. Closed k.facets) }
     ensures strong { IfOk result (λ k. StronglyConnected k.facets) }

@@ -6,6 +6,8 @@ use Rattle.make_complex.specs.Named.{named_complex, named_euler}
 use Rattle.make_complex.specs.Draws.{made_complex}
 use Rattle.make_complex.specs.Words.{generator}
 use Rattle.make_complex.proofs.Drawing.{way_goes, way_ends, made_few}
+use Rattle.make_complex.proofs.Flipping.{few_labels}
+use Rattle.make_complex.proofs.Drawing.{way_uses}
 use Rattle.make_complex.proofs.Facts.{Looks, named_small, made_looks}
 use Rattle.make_complex.proofs.generate.make.Goals as goal
 
@@ -41,3 +43,6 @@ pub returns-clause-euler : goal.returns-clause-euler
 returns-clause-euler c =
     let p : Looks c.args.kind c.loop.complex × (c.loop.complex.dim ≡ c.args.dim) = made_looks c.args.kind c.args.dim c.args.draws c.args.seed c.loop.complex c.requires.low c.requires.high (subst IsComplex c.in_ok-complex.ensures c.in_ok-stars.ensures.stars.complex) (way_ends _ c.loop.complex c.loop.stars c.loop.words _ (omega (arith, c.loop-test.false)) c.loop.invariant) in
     p.0.euler ∙ ap (named_euler c.args.kind) p.1
+
+pub returns-clause-labels : goal.returns-clause-labels
+returns-clause-labels c = few_labels c.loop.complex c.loop.invariant.stars.complex (way_uses _ c.loop.complex c.loop.stars c.loop.words _ c.loop.invariant)
