@@ -1,9 +1,8 @@
 -- The laws of the job `make`.
-use Rattle.std.proofs.Common.{◌≡◌, ℕ, List, Ok, Result, inl, inr, sym, ◌∙◌, ap, subst}
+use Rattle.std.proofs.Common.{◌≡◌, ℕ, List, inl, inr, sym, ◌∙◌, ap}
 use Rattle.job_answer.specs.Alone.{complex_of}
 use Rattle.job_answer.specs.Meanings.{Lawful, Same}
 use Rattle.job_answer.proofs.Meanings.{IsDoneShort, verdict_done}
-use Rattle.job_answer.specs.declared.fault.Fault.{Fault}
 use Rattle.job_answer.specs.declared.status.Status.{Status}
 use Rattle.job_answer.specs.declared.status.Status.TheVariants.{Yes, No}
 use Rattle.job_make.specs.Answers.{Recipe, IsMade, TellsMade, made, meaning}
