@@ -11,6 +11,8 @@ mod isomorphisms;
 #[cfg(test)]
 mod local_flips;
 #[cfg(test)]
+mod made;
+#[cfg(test)]
 mod samples;
 #[cfg(test)]
 mod texts;

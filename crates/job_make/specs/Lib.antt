@@ -1,0 +1,3 @@
+-- What the job `make` answers.
+pub mod Answers
+pub mod Laws

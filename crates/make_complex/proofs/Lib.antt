@@ -1,0 +1,11 @@
+mod Gaps
+mod Counts
+mod Flipping
+mod Choosing
+mod WordSteps
+mod Faces
+mod Computed
+mod Drawing
+mod Spheres
+mod Surfaces
+mod Facts
