@@ -1,0 +1,5 @@
+-- Links of faces, and which of them are bad.
+pub mod Flags
+pub mod BadLinks
+pub mod Sizes
+pub mod Laws

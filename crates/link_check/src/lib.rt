@@ -1,0 +1,11 @@
+//! Links: whether the link of each face has the facts of a sphere that are cheap to test.
+#![tactic(auto)]
+
+mod bad;
+mod flags;
+mod laws;
+#[cfg(test)]
+mod tests;
+
+pub use bad::{BadLink, LinkFact, bad_link};
+pub use laws::bad_link_law;
