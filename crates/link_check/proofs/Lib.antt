@@ -1,3 +1,4 @@
 pub mod Flagged
 pub mod Linked
 pub mod Judged
+pub mod Vertices

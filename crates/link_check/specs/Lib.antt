@@ -3,3 +3,4 @@ pub mod Flags
 pub mod BadLinks
 pub mod Sizes
 pub mod Laws
+pub mod Vertices

@@ -8,4 +8,4 @@ mod laws;
 mod tests;
 
 pub use bad::{BadLink, LinkFact, bad_link};
-pub use laws::bad_link_law;
+pub use laws::{bad_link_law, good_links_law, vertex_links_closed};
