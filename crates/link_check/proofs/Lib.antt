@@ -2,3 +2,4 @@ pub mod Flagged
 pub mod Linked
 pub mod Judged
 pub mod Vertices
+pub mod LinkSearching

@@ -31,7 +31,7 @@ and_true : (b : Bool) → b ≡ (b && true)
 and_true true = refl
 and_true false = refl
 
-has_used : (fs : List (List ℕ)) (v : ℕ) → has (used fs) v ≡ is_held fs (v ∷ [])
+pub has_used : (fs : List (List ℕ)) (v : ℕ) → has (used fs) v ≡ is_held fs (v ∷ [])
 has_used fs v = has-rising (flat_map (λ f. f) fs) v ∙ flat fs
   where
     flat : (fs : List (List ℕ)) → has (flat_map (λ f. f) fs) v ≡ is_held fs (v ∷ [])
@@ -56,11 +56,13 @@ length_images h (x ∷ xs) s one =
     let here : listed (x ∷ xs) x ≡ true = sym (listed-among (x ∷ xs) x) ∙ among_head nat_list_cmp_total x xs in
     let gone : listed xs x ≡ false = sym (listed-among xs x) ∙ not_among nat_list_cmp_total x xs (above_head face_cmp x xs s) in
     let new : listed (map h xs) (h x) ≡ false = false_from_ne_true (listed (map h xs) (h x)) (λ t.
-        let p : (y : List ℕ) × (listed xs y ≡ true) × (h x ≡ h y) = map_back h xs (h x) t in
-        clash {P = ⊥} (listed xs x) (ap (listed xs) (one x p.0 here (later p.0 p.1) p.2) ∙ p.1) gone) in
-    omega (arith,
+    let p : (y : List ℕ) × (listed xs y ≡ true) × (h x ≡ h y) = map_back h xs (h x) t in
+    clash {P = ⊥} (listed xs x) (ap (listed xs) (one x p.0 here (later p.0 p.1) p.2) ∙ p.1) gone) in
+    omega (
+      arith,
       length-put_new face_cmp (h x) (rising face_cmp (map h xs)) (listed-among (rising face_cmp (map h xs)) (h x) ∙ listed-rising (map h xs) (h x) ∙ new),
-      length_images h xs (above_tail face_cmp x xs s) (λ y z p q. one y z (later y p) (later z q)))
+      length_images h xs (above_tail face_cmp x xs s) (λ y z p q. one y z (later y p) (later z q)),
+    )
   where
     later : (y : List ℕ) → listed xs y ≡ true → listed (x ∷ xs) y ≡ true
     later y t = or_right (pointwise nat_eq x y) (listed xs y) t
@@ -72,7 +74,7 @@ module _ (k : ComplexView) (c : IsComplex k) (v : ℕ) where
   set f t = above_tail nat_cmp 0 f (pure_at k.dim k.facets f c.pure t).face.rising
 
   -- a facet of the link, and the facet of the complex that it comes from
-  from_facet : (g : List ℕ) → listed (vertex_link k v).facets g ≡ true → (f : List ℕ) × (listed k.facets f ≡ true) × (has f v ≡ true) × (g ≡ without f v)
+  pub from_facet : (g : List ℕ) → listed (vertex_link k v).facets g ≡ true → (f : List ℕ) × (listed k.facets f ≡ true) × (has f v ≡ true) × (g ≡ without f v)
   from_facet g t =
       let p : (f : List ℕ) × (listed (over k.facets (v ∷ [])) f ≡ true) × (g ≡ without f v) = map_back (λ f. less f (v ∷ [])) (over k.facets (v ∷ [])) g (sym (listed-rising (map (λ f. less f (v ∷ [])) (over k.facets (v ∷ []))) g) ∙ t) in
       let u : (listed k.facets p.0 && holds p.0 (v ∷ [])) ≡ true = sym (listed-filter (λ f. holds f (v ∷ [])) k.facets p.0) ∙ p.1 in
@@ -148,7 +150,7 @@ module _ (k : ComplexView) (c : IsComplex k) (v : ℕ) where
         ap (λ s. has s v) e ∙ has-without (without p.0 v) i.label v ∙ ap (λ b. b && not (nat_eq v i.label)) (without_gone p.0 v),
       )
 
-  link_closed : Closed k.facets → Closed (vertex_link k v).facets
+  pub link_closed : Closed k.facets → Closed (vertex_link k v).facets
   link_closed closed = record { two = λ r i. let p : IsRidge k.facets (with r v) × (has r v ≡ false) = ridge_of r i in count_link r p.1 ∙ closed.two (with r v) p.0 }
 
 pub vertex_links_closed : VertexLinksClosed

@@ -4,3 +4,4 @@ pub mod BadLinks
 pub mod Sizes
 pub mod Laws
 pub mod Vertices
+pub mod LinkSearches

@@ -85,7 +85,7 @@ fn fact_at(alloc: Global, near: &[Flag], face: &Face) -> Result<Option<LinkFact>
 }
 
 // The link of a face, by the flags of the face.
-fn link_at(alloc: Global, near: &[Flag], face: &Face) -> Result<Complex, AllocError>
+pub(crate) fn link_at(alloc: Global, near: &[Flag], face: &Face) -> Result<Complex, AllocError>
     requires { (k : ComplexView) × AreFlagsAt k face.now near.now }
     ensures { IfOk result (λ l. (k : ComplexView) → AreFlagsAt k face.now near.now → l ≡ link k face.now) }
 {
