@@ -1,0 +1,2 @@
+-- What a search for a sphere owes.
+pub mod Searches
