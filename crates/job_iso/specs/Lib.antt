@@ -1,4 +1,3 @@
 -- What the job `iso` answers.
-pub mod Readings
 pub mod Answers
 pub mod Laws

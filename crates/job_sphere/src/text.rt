@@ -1,12 +1,13 @@
 // The texts of the answers.
-ghost use Rattle.std.specs.Prelude.{◌≡◌, ◌++◌, ◌∷◌, IfOk, length, string_bytes};
+ghost use Rattle.std.specs.Prelude.{◌≡◌, IfOk, length, string_bytes};
 ghost use Rattle.report_text.specs.Shown.{told_flips};
-ghost use Rattle.job_sphere.specs.Texts.{obstacle_line, obstacle_text, rounds_line, found_text, undecided_text};
+ghost use Rattle.job_sphere.specs.Texts.{obstacle_line, obstacle_text, found_text, undecided_text};
 
 use cert_text::{Certificate, write_certificate};
 use flip_laws::Obstacle;
 use job_answer::{apart_line, clash_line, euler_line, ridge_line};
 use round_run::Report;
+use search_lines::verdict_lines;
 use std::alloc::{AllocError, Global};
 
 // The line of an obstacle.
@@ -30,22 +31,12 @@ pub(crate) fn obstacle_text(alloc: Global, obstacle: Obstacle) -> Result<String,
     Ok(text)
 }
 
-// The first lines of an answer: the verdict, and how many rounds were made.
-fn verdict_lines(alloc: Global, verdict: &str, report: &Report) -> Result<String, AllocError>
-    ensures { IfOk result (λ t. string_bytes t ≡ verdict.now ++ (10 ∷ rounds_line (length report.now.rounds))) }
-{
-    let rounds = report.rounds().len();
-    let mut text = String::from_str(alloc, verdict)?;
-    write!(text, "\nrounds {rounds}\n")?;
-    Ok(text)
-}
-
 /// The answer to a complex that a search led to the boundary of a simplex: a certificate, in the labels of the complex.
 pub(crate) fn found_text(alloc: Global, report: &Report) -> Result<Vec<u8>, AllocError>
     ensures { IfOk result (λ t. t.items ≡ found_text (length report.now.rounds) (told_flips report.now)) }
 {
     let flips = report.named_flips(alloc)?;
-    let mut text = verdict_lines(alloc, "yes", report)?.into_bytes();
+    let mut text = verdict_lines(alloc, "yes", report.rounds().len())?.into_bytes();
     write_certificate(&Certificate::Sphere(flips), &mut text)?;
     Ok(text)
 }
@@ -56,7 +47,7 @@ pub(crate) fn undecided_text(alloc: Global, report: &Report) -> Result<Vec<u8>, 
 {
     let flips = report.named_flips(alloc)?.len();
     let facets = report.end().facets().len();
-    let mut text = verdict_lines(alloc, "undecided", report)?;
+    let mut text = verdict_lines(alloc, "undecided", report.rounds().len())?;
     write!(text, "flips {flips}\n")?;
     write!(text, "facets {facets}\n")?;
     Ok(text.into_bytes())

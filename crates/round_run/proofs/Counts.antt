@@ -22,7 +22,7 @@ module _ {A : Type 0} where
   rise_less count was now said r = record { same = r.same; rise = λ i a b e f. omega (arith, r.rise i a b e f) }
 
   -- one rise after another
-  rise_then : (count : A → ℕ) (was mid now : List A) (said more all : ℕ → ℕ) → ((i : ℕ) → all i ≤ said i + more i) → Rise count was mid said → Rise count mid now more → Rise count was now all
+  pub rise_then : (count : A → ℕ) (was mid now : List A) (said more all : ℕ → ℕ) → ((i : ℕ) → all i ≤ said i + more i) → Rise count was mid said → Rise count mid now more → Rise count was now all
   rise_then count was mid now said more all h r s = record { same = s.same ∙ r.same; rise = by }
     where
       by : (i : ℕ) (a b : A) → get_elem? was i ≡ some a → get_elem? now i ≡ some b → count a + all i ≤ count b

@@ -9,15 +9,41 @@ use Rattle.round_rules.specs.Rounds.{RoundView}
 use Rattle.round_run.specs.Gates.{Rise, quits_at}
 use Rattle.round_run.specs.Reports.{ReportView, ReportOk, IsElsewhere}
 
--- it stands behind a descent, and no descent before this one ended in the boundary of a simplex
-pub record Stands (given : ComplexView) (plan : Numbers) (r : ReportView) : Type 0 where
+-- the places of a search from a complex of dimension at least 1: there are few, and every label of the complex on the places has a name
+pub record IsPlaced (given : ComplexView) (r : ReportView) : Type 0 where
   pub dim : 1 ≤ given.dim
-  -- every label of the complex on the places has a name, and the places are few
   pub start : Renames r.names (renamed given (turned r.names))
   pub few : length r.names ≤ 65535
+
+-- a search from this complex begins, and nothing was made yet
+pub record IsOpened (given : ComplexView) (plan : Numbers) (r : ReportView) : Type 0 where
+  pub placed : IsPlaced given r
   pub ok : ReportOk given plan r
-  pub earlier : List ComplexView
+  pub descents : r.descents ≡ []
+  pub rounds : r.rounds ≡ []
+
+-- it stands behind a descent, and those before this one ended in these complexes
+pub record Stands (given : ComplexView) (plan : Numbers) (earlier : List ComplexView) (r : ReportView) : Type 0 where
+  pub placed : IsPlaced given r
+  pub ok : ReportOk given plan r
   pub ends : ok.lows ≡ earlier ++ r.end ∷ []
+
+abbrev pub StandsSomewhere : ComplexView → Numbers → ReportView → Type 0
+StandsSomewhere given plan r = (earlier : List ComplexView) × Stands given plan earlier r
+
+-- descent 0 was made
+pub record Descended (plan : Numbers) (before after : ReportView) : Type 0 where
+  pub stands : (given : ComplexView) → IsOpened given plan before → Stands given plan [] after
+  pub rounds : after.rounds ≡ []
+
+-- one round more was made, and one descent behind it
+abbrev pub Advanced : Numbers → ReportView → ReportView → Type 0
+Advanced plan before after = (given : ComplexView) (earlier : List ComplexView) → Stands given plan earlier before → Stands given plan (earlier ++ before.end ∷ []) after
+
+-- no descent before the last one ended in the boundary of a simplex
+pub record IsSeeking (given : ComplexView) (plan : Numbers) (r : ReportView) : Type 0 where
+  pub earlier : List ComplexView
+  pub stands : Stands given plan earlier r
   pub first : AllByRecursion IsElsewhere earlier
 
 -- one round more, in which a worker quits at most as often as the count of its gate rose

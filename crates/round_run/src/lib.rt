@@ -14,6 +14,7 @@ mod round;
 mod running;
 mod search;
 mod starting;
+mod steps;
 
 pub use record::RoundRecord;
 pub use report::Report;

@@ -1,11 +1,11 @@
 use Rattle.std.proofs.Common.{◌-◌, length}
 use Rattle.round_run.specs.Gates.{Rise, all_quits_at}
-use Rattle.round_run.specs.Searches.{Stands}
+use Rattle.round_run.specs.Searches.{IsSeeking}
 use Rattle.round_run.proofs.search.search_sphere.Given as goal
 
 abbrev pub invariant-legs : goal.invariant-legs
 invariant-legs g l = record {
-  stands : Stands l.input l.plan l.report;
+  seeking : IsSeeking l.input l.plan l.report;
   quits : Rise (λ gate. g.G.Gate.quits gate) l.fn.gates l.gates (all_quits_at l.report.rounds);
 }
 

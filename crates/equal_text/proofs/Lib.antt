@@ -1,0 +1,4 @@
+pub mod ReadAgain
+pub mod Lengths
+pub mod Small
+pub mod Fits

@@ -1,0 +1,2 @@
+-- The first lines of what a search is answered.
+pub mod Lines
