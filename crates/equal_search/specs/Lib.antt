@@ -1,0 +1,3 @@
+-- Searches for flips that lead one complex to another.
+pub mod Comparing
+pub mod Pairs
