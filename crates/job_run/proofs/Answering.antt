@@ -7,7 +7,7 @@ use Rattle.job_answer.proofs.Meanings.{same_answer, not_bad}
 use Rattle.job_answer.specs.declared.status.Status.{Status}
 use Rattle.job_answer.specs.declared.status.Status.TheVariants.{Yes, No, Undecided, Usage, BadInput}
 use Rattle.job_run.specs.Usage.{usage_line}
-use Rattle.job_run.specs.Jobs.{IsJob, NamesNoJob, AsksForSphere, meaning_of}
+use Rattle.job_run.specs.Jobs.{IsJob, NamesNoJob, AsksForSearches, meaning_of}
 use Rattle.job_run.specs.Answers.{MayEnd, AnswerIsOne, AnswerIsOfJob, IsVerdict, EndsJob, FitsWords, RefusesWords}
 use Rattle.job_run.specs.declared.job.Job.{Job}
 use Rattle.job_run.specs.declared.job.Job.TheVariants as job
@@ -64,21 +64,21 @@ pub verdict_words : (words : List (List ℕ)) (s : Status) (xs : List ℕ) (p : 
 verdict_words words s xs p (inl a) j n v = absurd (a.other j n)
 verdict_words words s xs p (inr a) j n v = let P : Job → Type 0 = λ i. EndsJob i s p in verdict_ends j s p (subst P (one_job words a.job j a.named n) a.ends) v
 
-end_undecided : (words : List (List ℕ)) (j : Job) (s : Status) (p : JobReport) → IsJob words j → EndsJob j s p → s ≡ Undecided → AsksForSphere words
+end_undecided : (words : List (List ℕ)) (j : Job) (s : Status) (p : JobReport) → IsJob words j → EndsJob j s p → s ≡ Undecided → AsksForSearches words
 end_undecided words j s p n (inl d) e = let P : Status → Type 0 = λ t. MayEnd j t in undecided_job words j n (subst P e d.ends)
 end_undecided words j s p n (inr b) e = let z : BadInput ≡ Undecided = sym b.is_bad ∙ e in cc
 
--- Undecided is said to words that ask for `sphere`
-pub undecided_words : (words : List (List ℕ)) (s : Status) (xs : List ℕ) (p : JobReport) → FitsWords words s xs p → s ≡ Undecided → AsksForSphere words
+-- Undecided is said to words that ask for searches
+pub undecided_words : (words : List (List ℕ)) (s : Status) (xs : List ℕ) (p : JobReport) → FitsWords words s xs p → s ≡ Undecided → AsksForSearches words
 undecided_words words s xs p (inl a) e = let z : Usage ≡ Undecided = sym a.is_usage ∙ e in cc
 undecided_words words s xs p (inr a) e = end_undecided words a.job s p a.named a.ends e
 
-end_silent : (words : List (List ℕ)) (j : Job) (s : Status) (p : JobReport) → IsJob words j → (IsJob words job.Trace → ⊥) → (AsksForSphere words → ⊥) → EndsJob j s p → p ≡ report.Nothing
+end_silent : (words : List (List ℕ)) (j : Job) (s : Status) (p : JobReport) → IsJob words j → (IsJob words job.Trace → ⊥) → (AsksForSearches words → ⊥) → EndsJob j s p → p ≡ report.Nothing
 end_silent words j s p n t o (inl d) = silent_job words j s p n t o d.fits
 end_silent words j s p n t o (inr b) = b.reports
 
 -- other words have no report
-pub silent_words : (words : List (List ℕ)) (s : Status) (xs : List ℕ) (p : JobReport) → FitsWords words s xs p → (IsJob words job.Trace → ⊥) → (AsksForSphere words → ⊥) → p ≡ report.Nothing
+pub silent_words : (words : List (List ℕ)) (s : Status) (xs : List ℕ) (p : JobReport) → FitsWords words s xs p → (IsJob words job.Trace → ⊥) → (AsksForSearches words → ⊥) → p ≡ report.Nothing
 silent_words words s xs p (inl a) t o = a.reports
 silent_words words s xs p (inr a) t o = end_silent words a.job s p a.named t o a.ends
 

@@ -12,12 +12,14 @@ use Rattle.job_trace.specs.Answers as trace
 use Rattle.job_info.specs.Answers as info
 use Rattle.job_iso.specs.Answers as iso
 use Rattle.job_sphere.specs.Answers as sphere
+use Rattle.job_equiv.specs.Answers as equiv
 use Rattle.job_replay.proofs.Laws as replay_laws
 use Rattle.job_trace.proofs.Laws as trace_laws
 use Rattle.job_info.proofs.Laws as info_laws
 use Rattle.job_iso.proofs.Laws as iso_laws
 use Rattle.job_sphere.proofs.Laws as sphere_laws
-use Rattle.job_run.specs.Jobs.{IsJob, AsksForSphere, built, of_nothing, of_trace, of_sphere, meaning_of}
+use Rattle.job_equiv.proofs.Laws as equiv_laws
+use Rattle.job_run.specs.Jobs.{IsJob, AsksForSearches, built, of_nothing, of_trace, of_sphere, of_equal, meaning_of}
 use Rattle.job_run.specs.Answers.{MayEnd, FitsJob}
 use Rattle.job_run.specs.declared.job.Job.{Job}
 use Rattle.job_run.specs.declared.job.Job.TheVariants as job
@@ -46,6 +48,7 @@ lawful_of job.Trace = lawful_as of_trace trace.meaning trace_laws.lawful
 lawful_of job.Info = lawful_as of_nothing info.meaning info_laws.lawful
 lawful_of job.Iso = lawful_as of_nothing iso.meaning iso_laws.lawful
 lawful_of (job.Sphere plan) = lawful_as of_sphere (sphere.meaning plan) (sphere_laws.lawful plan)
+lawful_of (job.Equiv plan) = lawful_as of_equal (equiv.meaning plan) (equiv_laws.lawful plan)
 
 -- where nothing is found nothing is reported
 pub nothing_of : (j : Job) → (meaning_of j).nothing ≡ report.Nothing
@@ -54,6 +57,7 @@ nothing_of job.Trace = refl
 nothing_of job.Info = refl
 nothing_of job.Iso = refl
 nothing_of (job.Sphere plan) = refl
+nothing_of (job.Equiv plan) = refl
 
 -- ---- who may say Undecided, and who reports
 
@@ -63,8 +67,8 @@ not_yes e = cc
 not_no : No ≡ Undecided → ⊥
 not_no e = cc
 
--- Undecided is said by `sphere` alone
-pub undecided_job : (words : List (List ℕ)) (j : Job) → IsJob words j → MayEnd j Undecided → AsksForSphere words
+-- Undecided is said by jobs that make searches alone
+pub undecided_job : (words : List (List ℕ)) (j : Job) → IsJob words j → MayEnd j Undecided → AsksForSearches words
 undecided_job words job.Replay n d = absurd (never d)
   where
     never : MayEnd job.Replay Undecided → ⊥
@@ -81,12 +85,14 @@ undecided_job words job.Iso n d = absurd (never d)
     never : MayEnd job.Iso Undecided → ⊥
     never (inl y) = not_yes (sym y)
     never (inr m) = not_no (sym m)
-undecided_job words (job.Sphere plan) n d = record { plan = plan; named = n }
+undecided_job words (job.Sphere plan) n d = record { job = job.Sphere plan; named = n; searches = tt }
+undecided_job words (job.Equiv plan) n d = record { job = job.Equiv plan; named = n; searches = tt }
 
--- a job that is neither `trace` nor `sphere` reports nothing
-pub silent_job : (words : List (List ℕ)) (j : Job) (s : Status) (p : JobReport) → IsJob words j → (IsJob words job.Trace → ⊥) → (AsksForSphere words → ⊥) → FitsJob j s p → p ≡ report.Nothing
+-- a job that is not `trace` and makes no searches reports nothing
+pub silent_job : (words : List (List ℕ)) (j : Job) (s : Status) (p : JobReport) → IsJob words j → (IsJob words job.Trace → ⊥) → (AsksForSearches words → ⊥) → FitsJob j s p → p ≡ report.Nothing
 silent_job words job.Replay s p n t o f = f.reports
 silent_job words job.Trace s p n t o f = absurd (t n)
 silent_job words job.Info s p n t o f = f.reports
 silent_job words job.Iso s p n t o f = f.reports
-silent_job words (job.Sphere plan) s p n t o f = absurd (o (record { plan = plan; named = n }))
+silent_job words (job.Sphere plan) s p n t o f = absurd (o (record { job = job.Sphere plan; named = n; searches = tt }))
+silent_job words (job.Equiv plan) s p n t o f = absurd (o (record { job = job.Equiv plan; named = n; searches = tt }))

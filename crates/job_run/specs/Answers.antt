@@ -4,6 +4,7 @@ use Rattle.std.specs.declared.option.Option.{Option}
 use Rattle.std.specs.Io.KnownBytes.{Appends}
 use Rattle.flip_io.specs.Outcomes.{AppendsPrefix}
 use Rattle.round_run.specs.Gates.{all_quits_at}
+use Rattle.equal_search.specs.Comparing.{quits_of_both}
 use Rattle.job_answer.specs.Meanings.{Answers, IsInput as IsInputOf, Same}
 use Rattle.job_answer.specs.declared.status.Status.{Status}
 use Rattle.job_answer.specs.declared.status.Status.TheVariants.{Yes, No, Undecided, Usage, BadInput, ReadFault, WriteFault, NoMemory}
@@ -49,7 +50,7 @@ FitsJob j = (meaning_of j).fits
 
 -- ---- laws
 
--- the words ask for a job whose inputs have one answer each, as `sphere` has only without rounds
+-- the words ask for a job whose inputs have one answer each, as `sphere` has only without rounds, and `equiv` isn't said to have
 abbrev pub Determined : List (List ℕ) → Type 0
 Determined words = (j : Job) → IsJob words j → (meaning_of j).is_fixed
 
@@ -88,6 +89,7 @@ abbrev pub quits_of : JobReport → ℕ → ℕ
 quits_of report.Nothing = λ i. 0
 quits_of (report.Trace last) = λ i. 0
 quits_of (report.Sphere r) = all_quits_at r.rounds
+quits_of (report.Equal r s) = quits_of_both r s
 
 -- ---- what was written
 

@@ -14,6 +14,8 @@ use Rattle.job_trace.specs.Answers as trace
 use Rattle.job_info.specs.Answers as info
 use Rattle.job_iso.specs.Answers as iso
 use Rattle.job_sphere.specs.Answers as sphere
+use Rattle.job_equiv.specs.Answers as equiv
+use Rattle.job_equiv.specs.Answers.{Reports}
 use Rattle.job_run.specs.declared.job.Job.{Job}
 use Rattle.job_run.specs.declared.job.Job.TheVariants as job
 use Rattle.job_run.specs.declared.report.JobReport.{JobReport}
@@ -28,7 +30,7 @@ named name.Trace plan = Some job.Trace
 named name.Info plan = Some job.Info
 named name.Iso plan = Some job.Iso
 named name.Sphere plan = Some (job.Sphere plan)
-named name.Equiv plan = None
+named name.Equiv plan = Some (job.Equiv plan)
 named name.Manifold plan = None
 named name.Make plan = None
 named name.Drill plan = None
@@ -46,10 +48,20 @@ pub record IsJob (words : List (List ℕ)) (j : Job) : Type 0 where
 abbrev pub NamesNoJob : List (List ℕ) → Type 0
 NamesNoJob words = (j : Job) → IsJob words j → ⊥
 
--- the words ask for `sphere`
-pub record AsksForSphere (words : List (List ℕ)) : Type 0 where
-  pub plan : Numbers
-  pub named : IsJob words (job.Sphere plan)
+-- the job makes searches, so that it may be undecided
+abbrev pub MakesSearches : Job → Type 0
+MakesSearches job.Replay = ⊥
+MakesSearches job.Trace = ⊥
+MakesSearches job.Info = ⊥
+MakesSearches job.Iso = ⊥
+MakesSearches (job.Sphere plan) = Unit {0}
+MakesSearches (job.Equiv plan) = Unit {0}
+
+-- the words ask for such a job
+pub record AsksForSearches (words : List (List ℕ)) : Type 0 where
+  pub job : Job
+  pub named : IsJob words job
+  pub searches : MakesSearches job
 
 -- ---- what a job means
 
@@ -65,6 +77,10 @@ abbrev pub of_sphere : Option ReportView → JobReport
 of_sphere None = report.Nothing
 of_sphere (Some r) = report.Sphere r
 
+abbrev pub of_equal : Option Reports → JobReport
+of_equal None = report.Nothing
+of_equal (Some r) = report.Equal r.0 r.1
+
 -- What each job means: its crate says it.
 abbrev pub meaning_of : Job → Meaning JobReport
 meaning_of job.Replay = reported_as of_nothing replay.meaning
@@ -72,6 +88,7 @@ meaning_of job.Trace = reported_as of_trace trace.meaning
 meaning_of job.Info = reported_as of_nothing info.meaning
 meaning_of job.Iso = reported_as of_nothing iso.meaning
 meaning_of (job.Sphere plan) = reported_as of_sphere (sphere.meaning plan)
+meaning_of (job.Equiv plan) = reported_as of_equal (equiv.meaning plan)
 
 -- the most bytes of an input
 abbrev pub limit_of : Job → ℕ

@@ -14,6 +14,7 @@ pub(crate) enum Job {
     Info,
     Iso,
     Sphere(Plan),
+    Equiv(Plan),
 }
 
 impl Job {
@@ -27,7 +28,8 @@ impl Job {
             JobName::Info => Some(Job::Info),
             JobName::Iso => Some(Job::Iso),
             JobName::Sphere => Some(Job::Sphere(asked.plan)),
-            JobName::Equiv | JobName::Manifold | JobName::Make | JobName::Drill => None,
+            JobName::Equiv => Some(Job::Equiv(asked.plan)),
+            JobName::Manifold | JobName::Make | JobName::Drill => None,
         }
     }
 
@@ -53,6 +55,7 @@ impl Job {
             Job::Info => job_info::MOST_BYTES,
             Job::Iso => job_iso::MOST_BYTES,
             Job::Sphere(_) => job_sphere::MOST_BYTES,
+            Job::Equiv(_) => job_equiv::MOST_BYTES,
         }
     }
 }

@@ -12,6 +12,8 @@ pub enum JobReport {
     Trace(World),
     /// A search from a complex that nothing keeps from being led to a sphere.
     Sphere(Report),
+    /// Searches from two complexes that differ in no fact that flips keep.
+    Equal(Report, Report),
 }
 
 /// What a job ends with.

@@ -11,7 +11,7 @@ ghost use Rattle.job_run.specs.declared.job.Job.{Job};
 ghost use Rattle.job_run.specs.declared.job.Job.TheVariants as job;
 ghost use Rattle.job_run.specs.declared.report.JobReport.TheVariants as report;
 ghost use Rattle.job_run.specs.Usage.{usage_line};
-ghost use Rattle.job_run.specs.Jobs.{limit_of, IsJob, NamesNoJob, AsksForSphere, meaning_of};
+ghost use Rattle.job_run.specs.Jobs.{limit_of, IsJob, NamesNoJob, AsksForSearches, meaning_of};
 ghost use Rattle.job_run.specs.Answers.{IsAnswer, IsInput, MayEnd, FitsJob, Headline, EndsJob, FitsWords, quits_of, IsWritten, RefusesWords, WritesNothing, ReportsNothing, Answered, BegunWith};
 
 use crate::job::Job;
@@ -21,6 +21,7 @@ use anneal_plan::Plan;
 use flip_io::{Failed, ReadAllFault, Sink, Source, read_all, write_all};
 use held_stars::Gate;
 use job_answer::{Fault, Said, Status, plain, refuse};
+use job_equiv::equiv;
 use job_info::info;
 use job_iso::iso;
 use job_replay::replay_input;
@@ -84,6 +85,30 @@ fn judge_sphere<R: Threads + Sync, G: Gate + Send>(
     }
 }
 
+// What `equiv` answers to an input.
+fn judge_equiv<R: Threads + Sync, G: Gate + Send>(
+    rt: &R,
+    alloc: Global,
+    plan: &Plan,
+    bytes: &[u8],
+    gates: &mut [G],
+) -> Result<Prepared, AllocError>
+    requires gates { 16 ≤ length gates.old }
+    ensures judged { IfOk result (λ a. Judges (meaning_of (job.Equiv plan.now)) bytes.now a.status a.text.items a.report) }
+    ensures quits { IfOk result (λ a. Rise (λ g. G.quits g) gates.old gates.new (quits_of a.report)) }
+    ensures later { Rise (λ g. G.quits g) gates.old gates.new (λ _. 0) }
+{
+    let (said, found) = equiv(rt, alloc, plan, bytes, gates)?;
+    match found {
+        Some((first, second)) => Ok(Prepared {
+            status: said.status,
+            text: said.text,
+            report: JobReport::Equal(first, second),
+        }),
+        None => Ok(silent(said)),
+    }
+}
+
 // What the job answers to an input: one line for each job.
 fn judge<R: Threads + Sync, G: Gate + Send>(
     rt: &R,
@@ -104,6 +129,7 @@ fn judge<R: Threads + Sync, G: Gate + Send>(
         Job::Info => Ok(silent(info(alloc, bytes)?)),
         Job::Iso => Ok(silent(iso(alloc, bytes)?)),
         Job::Sphere(plan) => judge_sphere(rt, alloc, &plan, bytes, gates),
+        Job::Equiv(plan) => judge_equiv(rt, alloc, &plan, bytes, gates),
     }
 }
 
@@ -180,8 +206,11 @@ fn prepare<R: Threads + Sync, S: Source, G: Gate + Send>(
 ///   facts of a sphere that it lacks. From a complex that lacks none it searches for legal flips that lead there: a descent, in
 ///   which each flip leaves fewer facets, and then, until a descent ends there, rounds of the workers, with a descent behind each.
 ///   The flips that are found are printed as a certificate.
+/// - `equiv` reads two complexes as `iso` does, and says in which of three facts that flips keep they differ. Two that differ in none
+///   it searches for legal flips that lead from the first to an image of the second: both are compared, and descents and rounds are
+///   made on both, until a map takes the one end to the other. The flips that are found are printed as a certificate of the first.
 ///
-/// They take all options. `sphere` uses all but `--kind`, `--dim` and `--draws`, and the others use none. Words that ask for
+/// They take all options. `sphere` and `equiv` use all but `--kind`, `--dim` and `--draws`, and the others use none. Words that ask for
 /// another job, or for none, are refused with the usage line. Bytes that spell no input of the job are answered with their first
 /// fault from left to right and its place.
 ///
@@ -205,7 +234,7 @@ pub fn run_job<R: Threads + Sync, S: Source, K: Sink, G: Gate + Send>(
     ensures answer { IsWritten result.status → IfSome (S.left source.old) (λ bytes. Answered (K.written sink.old) (K.written sink.new) (λ text. IsAnswer (map string_bytes words.now) bytes result.status text result.report)) }
 
     // A verdict is one of the job's. What it tells is said by the laws of the job's crate, over the answer: `replay_law`, `trace_law`,
-    // `info_law`, `iso_law` and `sphere_law`.
+    // `info_law`, `iso_law`, `sphere_law` and `equiv_law`.
     ensures verdict { (j : Job) → IsJob (map string_bytes words.now) j → HasVerdict result.status → MayEnd j result.status }
 
     // In all rounds together a worker quits at most as often as the count of its gate rose.
@@ -231,15 +260,16 @@ pub fn run_job<R: Threads + Sync, S: Source, K: Sink, G: Gate + Send>(
     // verdicts of this job, or there was no memory.
     ensures complete { (j : Job) → IsJob (map string_bytes words.now) j → (Rose (S.faults source.old) (S.faults source.new) → ⊥) → (Rose (K.faults sink.old) (K.faults sink.new) → ⊥) → IfSome (S.left source.old) (λ bytes. IsInput j bytes → MayEnd j result.status ⊎ (result.status ≡ Status.NoMemory)) }
 
-    // Undecided is only said by `sphere`.
-    ensures undecided { result.status ≡ Status.Undecided → AsksForSphere (map string_bytes words.now) }
+    // Undecided is only said by `sphere` and `equiv`.
+    ensures undecided { result.status ≡ Status.Undecided → AsksForSearches (map string_bytes words.now) }
 
     // A core is reported at Yes and No of `trace`. At Yes of `sphere` a search is reported whose last descent was the first that
-    // ended in the boundary of a simplex, and at Undecided one that made all rounds, and no descent of which ended there. Where
-    // such an answer could not be written, its report stands too.
+    // ended in the boundary of a simplex, and at Undecided one that made all rounds, and no descent of which ended there. At Yes
+    // of `equiv` two searches are reported whose last comparison was the first that found a map, and at Undecided two that made
+    // all rounds, and no comparison of which found one. Where such an answer could not be written, its report stands too.
     ensures reported { (j : Job) → IsJob (map string_bytes words.now) j → HasVerdict result.status → FitsJob j result.status result.report }
     ensures silent { ReportsNothing result.status → result.report ≡ report.Nothing }
-    ensures report { (IsJob (map string_bytes words.now) job.Trace → ⊥) → (AsksForSphere (map string_bytes words.now) → ⊥) → result.report ≡ report.Nothing }
+    ensures report { (IsJob (map string_bytes words.now) job.Trace → ⊥) → (AsksForSearches (map string_bytes words.now) → ⊥) → result.report ≡ report.Nothing }
 {
     match prepare(rt, alloc, words, source, gates) {
         Ok(

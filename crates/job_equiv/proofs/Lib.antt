@@ -1,0 +1,2 @@
+mod Searched
+pub mod Laws
