@@ -27,6 +27,7 @@ use Rattle.flip_rules.specs.Certificates.{SphereCert}
 use Rattle.flip_rules.specs.declared.flip.Flip.{Flip}
 use Rattle.pseudo_test.specs.Ridges.{Closed, IsRidge}
 use Rattle.sphere_search.specs.Searches.{FlipAtMost, UsesAtMost, ShowsSphere, Answers}
+use Rattle.sphere_search.proofs.Labels.{all_below, labels_are_few}
 use Rattle.sphere_search.specs.declared.search.Searched.{Searched}
 use Rattle.sphere_search.specs.declared.search.Searched.TheVariants.{Found, Gave}
 use Rattle.link_check.specs.declared.link_search.Links.{Links}
@@ -136,27 +137,11 @@ link_labels k v n c h = each_member (λ x. x ≤ n) (used (vertex_link k v).face
         let f : (f : List ℕ) × (listed k.facets f ≡ true) × (has f v ≡ true) × (g.0 ≡ without f v) = from_facet k c v g.0 g.1 in
         used_label k.facets f.0 x f.1 (without_has f.0 v x (ap (λ s. has s x) (sym f.3) ∙ first_so (has g.0 x) true g.2))
 
-greatest_small : (n : ℕ) (xs : List ℕ) → AllByRecursion (λ x. x ≤ n) xs → greatest xs ≤ n
-greatest_small n xs h = at xs (length xs - 1) h
-  where
-    at : (xs : List ℕ) (i : ℕ) → AllByRecursion (λ x. x ≤ n) xs → slice_index xs i ≤ n
-    at [] i h = omega arith
-    at (x ∷ xs) zero h = h.0
-    at (x ∷ xs) (suc i) h = at xs i h.1
-
-pub all_below : (n m : ℕ) (xs : List ℕ) → n ≤ m → AllByRecursion (λ x. x ≤ n) xs → AllByRecursion (λ x. x ≤ m) xs
-all_below n m [] le h = tt
-all_below n m (x ∷ xs) le h = (omega (arith, h.0, le), all_below n m xs le h.1)
-
-flips_below : (n m : ℕ) (flips : List Flip) → n ≤ m → AllByRecursion (FlipAtMost n) flips → AllByRecursion (FlipAtMost m) flips
-flips_below n m [] le h = tt
-flips_below n m (f ∷ flips) le h = (record { first = all_below n m f.a le h.0.first; second = all_below n m f.b le h.0.second }, flips_below n m flips le h.1)
-
 shows_link : (k : ComplexView) (v : ℕ) (flips : List Flip) → IsComplex k → UsesAtMost 60000 k → ShowsSphere (vertex_link k v) flips → ShowsLink k v flips
 shows_link k v flips c h s = record {
   faces = s.faces;
   leads = s.leads;
-  labels = flips_below (greatest (used (vertex_link k v).facets) + 1024) 61025 flips (omega (arith, greatest_small 60000 (used (vertex_link k v).facets) (link_labels k v 60000 c h))) s.labels;
+  labels = labels_are_few 60001 (vertex_link k v) flips (all_below 60000 60001 (used (vertex_link k v).facets) (omega arith) (link_labels k v 60000 c h)) s;
 }
 
 -- ---- what is known of the vertices so far

@@ -1,2 +1,3 @@
 -- What a search for a sphere owes.
 pub mod Searches
+pub mod Laws

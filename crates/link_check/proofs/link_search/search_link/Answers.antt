@@ -2,7 +2,8 @@ use Rattle.std.proofs.Common.{◌∙◌, ◌<◌, List, sym, subst, arith, rules
 use Rattle.flip_rules.specs.declared.flip.Flip.{Flip}
 use Rattle.sphere_search.specs.Searches.{ShowsSphere}
 use Rattle.complex_core.specs.Maps.{used}
-use Rattle.link_check.proofs.LinkSearching.{points_show, all_below}
+use Rattle.sphere_search.proofs.Labels.{all_below}
+use Rattle.link_check.proofs.LinkSearching.{points_show}
 use Rattle.link_check.proofs.link_search.search_link.Goals as goal
 
 pub returns-then-dim-eq0-clause-answers : goal.returns-then-dim-eq0-clause-answers
