@@ -5,9 +5,9 @@ use Rattle.anneal_plan.specs.Numbers.{Numbers}
 use Rattle.round_run.specs.Gates.{Rise, all_quits_at, quits_at}
 use Rattle.round_run.specs.Reports.{ReportView}
 use Rattle.round_run.specs.Searches.{IsNext}
-use Rattle.round_run.proofs.Counts.{all_quits_more, rise_less, rise_none, rise_then}
+use Rattle.round_run.proofs.Counts.{all_quits_more, rise_none, rise_then}
 use Rattle.equal_search.specs.Comparing.{quits_of_both}
-use Rattle.equal_search.specs.Pairs.{AreNext, AreSeeking}
+use Rattle.equal_search.specs.Pairs.{AreNext}
 
 module _ {A : Type 0} where
   -- no round yet

@@ -1,11 +1,12 @@
 -- What two searches side by side find.
 use Rattle.std.proofs.Common.{◌≡◌, ℕ, Bool, true, not, List, Option, Some, None, is_some, Result, Ok, Err, IfOk, IfNone, IfSome, sym, ◌∙◌, subst}
 use Rattle.complex_core.specs.Complexes.{ComplexView, IsComplex}
-use Rattle.facet_iso.specs.Isomorphisms.{IsFit, IsLeastMap, NoMap}
+use Rattle.facet_iso.specs.Isomorphisms.{IsFit, IsLeastMap}
 use Rattle.anneal_plan.specs.Numbers.{Numbers}
 use Rattle.round_run.specs.Reports.{ReportView}
 use Rattle.round_run.specs.Searches.{IsOpened}
-use Rattle.equal_search.specs.Comparing.{AreCompared, AreEqual, IsFound, told_end}
+use Rattle.equal_text.specs.Lists.{told_end}
+use Rattle.equal_search.specs.Comparing.{AreCompared, AreEqual, IsFound}
 use Rattle.equal_search.specs.Pairs.{CanCompare, IsJoined}
 use Rattle.equal_search.specs.declared.search.EqualFound.{EqualFound}
 use Rattle.equal_search.specs.declared.search.EqualFound.TheVariants.{Equal, Undecided}

@@ -15,7 +15,8 @@ use Rattle.flip_journal.proofs.Leading.{carried_joins, labels_named}
 use Rattle.cert_replay.specs.Answers.{EqualCert}
 use Rattle.round_run.specs.Reports.{ReportView}
 use Rattle.report_text.specs.Shown.{told_flips}
-use Rattle.equal_search.specs.Comparing.{AreJoined, told_end, way_back}
+use Rattle.equal_text.specs.Lists.{told_end, way_back}
+use Rattle.equal_search.specs.Comparing.{AreJoined}
 use Rattle.equal_search.specs.Pairs.{CanCompare}
 
 -- the flips of a report lead back to its complex, also from the image of another end

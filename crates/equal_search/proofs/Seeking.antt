@@ -1,5 +1,5 @@
 -- Two searches side by side, from one comparison to the next.
-use Rattle.std.proofs.Common.{◌≡◌, ℕ, ◌+◌, List, [], ◌∷◌, ◌++◌, length, map, sym, ◌∙◌, ap, refl, subst, arith, length-append}
+use Rattle.std.proofs.Common.{◌≡◌, ℕ, List, [], ◌∷◌, ◌++◌, length, sym, ◌∙◌, ap, refl, subst, arith, length-append}
 use Rattle.std.proofs.lemmas.List.{map-append}
 use Rattle.complex_core.specs.Complexes.{ComplexView, IsComplex}
 use Rattle.complex_core.specs.Maps.{names_of, renamed, turned}
@@ -7,11 +7,12 @@ use Rattle.flip_rules.specs.declared.flip.Flip.{Flip}
 use Rattle.facet_iso.specs.Isomorphisms.{IsFit, NoMap}
 use Rattle.anneal_plan.specs.Numbers.{Numbers}
 use Rattle.round_rules.specs.Rounds.{RoundView}
-use Rattle.round_run.specs.Reports.{Chain, ReportView, ReportOk, IsSpent}
+use Rattle.round_run.specs.Reports.{Chain, ReportView}
 use Rattle.round_run.specs.Searches.{Advanced, Descended, IsOpened, Stands}
 use Rattle.round_run.proofs.Searching.{chain_none, stands_long}
 use Rattle.sphere_text.proofs.Grounds.{ground}
-use Rattle.equal_search.specs.Comparing.{AreCompared, AreUndecided, IsCompared, NoMaps, stages, told_end}
+use Rattle.equal_text.specs.Lists.{told_end}
+use Rattle.equal_search.specs.Comparing.{AreCompared, AreUndecided, IsCompared, NoMaps, stages}
 use Rattle.equal_search.specs.Pairs.{AreSeeking, CanCompare}
 use Rattle.equal_search.proofs.Told.{can_compare}
 

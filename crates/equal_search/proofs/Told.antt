@@ -1,5 +1,5 @@
 -- What a report tells in the labels of its complex.
-use Rattle.std.proofs.Common.{◌≡◌, ℕ, List, length, Some, sym, ◌∙◌, ap, subst}
+use Rattle.std.proofs.Common.{◌≡◌, ℕ, List, length, Some, sym, ◌∙◌, refl, subst}
 use Rattle.complex_core.specs.Complexes.{ComplexView, IsComplex}
 use Rattle.complex_core.specs.Maps.{names_of, renamed}
 use Rattle.flip_rules.specs.Flips.{replay}
@@ -8,10 +8,12 @@ use Rattle.flip_rules.specs.declared.flip.Flip.{Flip}
 use Rattle.flip_names.specs.Laws.{Renames, RenamesAll}
 use Rattle.flip_names.specs.Names.{named_flips}
 use Rattle.flip_names.proofs.Back.{named_are_faces}
+use Rattle.flip_names.proofs.Faces.{renamed_is_complex}
 use Rattle.flip_names.proofs.Replays.{leads_there, replay_stays_taken}
 use Rattle.flip_laws.specs.Keeping.{Keeps}
 use Rattle.flip_laws.proofs.Replays.{replay_keeps}
-use Rattle.facet_iso.specs.Isomorphisms.{IsFit}
+use Rattle.facet_iso.specs.Isomorphisms.{IsFit, NoMap}
+use Rattle.facet_iso.proofs.Counted.{same_number}
 use Rattle.anneal_plan.specs.Numbers.{Numbers}
 use Rattle.round_rules.specs.Rounds.{RoundView}
 use Rattle.round_run.specs.Reports.{Chain, ReportView, ReportOk, history_from}
@@ -20,6 +22,7 @@ use Rattle.sphere_text.proofs.Grounds.{Ground, ground}
 use Rattle.report_text.proofs.Chains.{Leads, chain_runs}
 use Rattle.report_text.proofs.Places.{names_take_places}
 use Rattle.report_text.proofs.Searches.{chain_of}
+use Rattle.equal_text.specs.Lists.{told_end}
 use Rattle.equal_search.specs.Pairs.{CanCompare}
 
 -- a fit complex stays fit
@@ -44,7 +47,7 @@ told_parts k plan ds lows rs end complex fit c =
       complex = complex;
       faces = faces;
       replays = replays;
-      named = there.taken;
+      named = there;
       fit = fit_there k (renamed end m) (replay_keeps k (renamed end m) (named_flips m flips) complex faces replays).1 fit;
     }
 
@@ -53,3 +56,11 @@ can_compare k plan r complex fit ok =
     let P : List (ℕ × ℕ) → Type 0 = λ ns. CanCompare (record { input = k; names = ns; descents = r.descents; rounds = r.rounds; end = r.end }) in
     let Q : ComplexView → Type 0 = λ i. CanCompare (record { input = i; names = r.names; descents = r.descents; rounds = r.rounds; end = r.end }) in
     subst Q (sym ok.input) (subst P (sym ok.names) (told_parts k plan r.descents ok.lows r.rounds r.end complex fit (chain_of k plan r ok)))
+
+-- a complex and its image have as many facets
+as_many : (r : ReportView) → CanCompare r → length r.end.facets ≡ length (told_end r).facets
+as_many r h = same_number r.end (told_end r) h.named.complex r.names (record { is_map = h.named.is_map; all = h.named.taken; image = refl })
+
+-- so no map takes the one end to the other where their numbers of facets differ
+pub other_numbers : (r s : ReportView) → CanCompare r → CanCompare s → (length r.end.facets ≡ length s.end.facets → ⊥) → NoMap (told_end r) (told_end s)
+other_numbers r s h g n m t = n (as_many r h ∙ same_number (told_end r) (told_end s) (renamed_is_complex r.names r.end h.named) m t ∙ sym (as_many s g))

@@ -2,15 +2,13 @@
 use Rattle.std.specs.Prelude.{◌≡◌, ℕ, ◌+◌, ◌≤◌, List, [], ◌∷◌, ◌++◌, length, map}
 use Rattle.complex_core.specs.Complexes.{ComplexView}
 use Rattle.complex_core.specs.Maps.{greatest, names_of, renamed, used}
-use Rattle.flip_rules.specs.Laws.{inverse_list}
 use Rattle.flip_rules.specs.declared.flip.Flip.{Flip}
 use Rattle.facet_iso.specs.Isomorphisms.{IsFit, IsLeastMap, NoMap}
-use Rattle.flip_journal.specs.Carried.{carried_over, map_at_end}
 use Rattle.cert_replay.specs.Answers.{EqualCert}
 use Rattle.anneal_plan.specs.Numbers.{Numbers}
 use Rattle.round_run.specs.Gates.{all_quits_at}
 use Rattle.round_run.specs.Reports.{ReportView, ReportOk, IsSpent}
-use Rattle.report_text.specs.Shown.{told_flips}
+use Rattle.equal_text.specs.Lists.{joined, map_left, told_end}
 use Rattle.equal_search.specs.declared.search.EqualFound.{EqualFound}
 use Rattle.equal_search.specs.declared.search.EqualFound.TheVariants.{Equal, Undecided}
 
@@ -21,10 +19,6 @@ pub record CanSearch (plan : Numbers) (k : ComplexView) : Type 0 where
   pub labels : greatest (used k.facets) + plan.room ≤ 65535
 
 -- ---- where they are compared
-
--- where a report stands, in the labels of the complex that was given
-abbrev pub told_end : ReportView → ComplexView
-told_end r = renamed r.end r.names
 
 -- a search from K is compared at K, and where each of its descents ended, in the labels of K
 abbrev pub stages : ComplexView → Numbers → List ComplexView → List ComplexView
@@ -53,15 +47,11 @@ pub record AreCompared (k l : ComplexView) (plan : Numbers) (r s : ReportView) :
 
 -- ---- what they find
 
--- the flips of the second report, from its end back to its complex
-abbrev pub way_back : ReportView → List Flip
-way_back s = inverse_list (told_flips s)
-
 -- Behind the flips of the first report stand those that lead the second back, carried over a map from the one end to the other.
 -- Together they lead from the complex of the first to one that the pairs behind them take to the complex of the second.
 pub record AreJoined (r s : ReportView) (between : List (ℕ × ℕ)) (flips : List Flip) (pairs : List (ℕ × ℕ)) : Type 0 where
-  pub flips_are : flips ≡ told_flips r ++ carried_over between (way_back s)
-  pub pairs_are : pairs ≡ map_at_end between (way_back s)
+  pub flips_are : flips ≡ joined r s between
+  pub pairs_are : pairs ≡ map_left s between
   pub certificate : EqualCert r.input flips pairs s.input
 
 -- the least map takes the first end to the second, and no comparison before found one

@@ -1,17 +1,18 @@
 -- Two searches that go on side by side.
-use Rattle.std.specs.Prelude.{◌≡◌, ℕ, ◌+◌, true, List, [], ◌∷◌, ◌++◌, length, Some}
+use Rattle.std.specs.Prelude.{◌≡◌, ℕ, ◌+◌, List, [], ◌∷◌, ◌++◌, length, Some}
 use Rattle.std.specs.List.{AllByRecursion}
 use Rattle.complex_core.specs.Complexes.{ComplexView, IsComplex}
-use Rattle.complex_core.specs.Maps.{takes_all}
 use Rattle.flip_rules.specs.Flips.{OfFaces, replay}
+use Rattle.flip_names.specs.Laws.{Renames}
 use Rattle.facet_iso.specs.Isomorphisms.{IsFit}
 use Rattle.anneal_plan.specs.Numbers.{Numbers}
 use Rattle.round_rules.specs.Rounds.{RoundView}
 use Rattle.round_run.specs.Gates.{Rise, quits_at}
 use Rattle.round_run.specs.Reports.{ReportView}
-use Rattle.round_run.specs.Searches.{IsOpened, Stands}
+use Rattle.round_run.specs.Searches.{Stands}
 use Rattle.report_text.specs.Shown.{told_flips}
-use Rattle.equal_search.specs.Comparing.{AreJoined, NoMaps, stages, told_end}
+use Rattle.equal_text.specs.Lists.{told_end}
+use Rattle.equal_search.specs.Comparing.{AreJoined, NoMaps, stages}
 use Rattle.equal_search.specs.declared.search.EqualFound.{EqualFound}
 use Rattle.equal_search.specs.declared.search.EqualFound.TheVariants.{Equal, Undecided}
 
@@ -20,7 +21,7 @@ pub record CanCompare (r : ReportView) : Type 0 where
   pub complex : IsComplex r.input
   pub faces : AllByRecursion OfFaces (told_flips r)
   pub replays : replay r.input (told_flips r) ≡ Some (told_end r)
-  pub named : takes_all r.names r.end.facets ≡ true
+  pub named : Renames r.names r.end
   pub fit : IsFit (told_end r)
 
 -- both stand behind a descent, with as many rounds, and no comparison before found a map

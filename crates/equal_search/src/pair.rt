@@ -4,7 +4,8 @@ ghost use Rattle.std.specs.Prelude.{◌≡◌, ◌≤◌, ◌<◌, IfNone, IfOk,
 ghost use Rattle.facet_iso.specs.Isomorphisms.{IsLeastMap, NoMap};
 ghost use Rattle.round_run.specs.Gates.{Rise};
 ghost use Rattle.round_run.specs.Searches.{Advanced, Descended, IsOpened, StandsSomewhere};
-ghost use Rattle.equal_search.specs.Comparing.{CanSearch, told_end};
+ghost use Rattle.equal_text.specs.Lists.{told_end};
+ghost use Rattle.equal_search.specs.Comparing.{CanSearch};
 ghost use Rattle.equal_search.specs.Pairs.{AreNext, CanCompare};
 
 use anneal_plan::Plan;
@@ -53,13 +54,17 @@ impl Pair {
         })
     }
 
-    // The least map that takes the complex where the first stands to that of the second.
+    // The least map that takes the complex where the first stands to that of the second. A map takes as
+    // many facets to as many, so that where the numbers differ no more is looked at.
     pub(crate) fn compare(&self, alloc: Global) -> Result<Option<VertexMap>, AllocError>
         requires first { CanCompare self.now.first }
         requires second { CanCompare self.now.second }
         ensures least { IfOk result (λ m. IfSome m (IsLeastMap (told_end self.now.first) (told_end self.now.second))) }
         ensures none { IfOk result (λ m. IfNone m (NoMap (told_end self.now.first) (told_end self.now.second))) }
     {
+        if self.first.end().facets().len() != self.second.end().facets().len() {
+            return Ok(None);
+        }
         let near = told_end(&self.first)?;
         let far = told_end(&self.second)?;
         match isomorphism(alloc, &near, &far) {

@@ -3,7 +3,8 @@
 ghost use Rattle.std.specs.Prelude.{◌≡◌, ◌≤◌, [], IfOk, length};
 ghost use Rattle.facet_iso.specs.Isomorphisms.{IsLeastMap};
 ghost use Rattle.round_run.specs.Gates.{Rise};
-ghost use Rattle.equal_search.specs.Comparing.{AreJoined, CanSearch, IsFound, quits_in, told_end};
+ghost use Rattle.equal_text.specs.Lists.{told_end};
+ghost use Rattle.equal_search.specs.Comparing.{AreJoined, CanSearch, IsFound, quits_in};
 ghost use Rattle.equal_search.specs.Pairs.{AreSeeking, CanCompare, IsJoined};
 
 use crate::pair::{Pair, told_end};

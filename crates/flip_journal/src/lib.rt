@@ -6,8 +6,6 @@ mod laws;
 mod lists;
 mod names;
 mod over_map;
-#[cfg(test)]
-mod tests;
 
 pub use laws::{carrying_law, inverse_law};
 pub use lists::{flat, inverse_list, of_worker};

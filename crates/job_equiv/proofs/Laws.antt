@@ -1,19 +1,21 @@
 -- The laws of the job `equiv`.
-use Rattle.std.proofs.Common.{◌≡◌, ℕ, ◌⊎◌, inl, inr, List, Option, Some, sym, ◌∙◌, subst}
+use Rattle.std.proofs.Common.{◌≡◌, ℕ, ◌⊎◌, inl, inr, List, Option, Some, None, sym, ◌∙◌, subst}
 use Rattle.complex_core.specs.Complexes.{ComplexView}
 use Rattle.anneal_plan.specs.Numbers.{Numbers}
 use Rattle.round_run.specs.Reports.{ReportView}
-use Rattle.cert_replay.specs.Answers.{EqualCert}
 use Rattle.equal_search.specs.Comparing.{AreEqual, AreUndecided}
 use Rattle.job_answer.specs.Meanings.{IsDone, Lawful}
-use Rattle.job_answer.specs.Statuses.{EndsSearch, HasVerdict}
+use Rattle.job_answer.specs.Statuses.{EndsSearch}
 use Rattle.job_answer.proofs.Meanings.{verdict_done}
 use Rattle.job_answer.specs.declared.status.Status.{Status}
 use Rattle.job_answer.specs.declared.status.Status.TheVariants.{Yes, No, Undecided}
 use Rattle.job_pairs.specs.Readings.{Pair}
+use Rattle.search_lines.specs.Ends.{MayEnd}
+use Rattle.search_lines.proofs.Ends.{end_verdict, fits_no, fits_undecided, fits_yes, no_end, search_verdict}
 use Rattle.job_pairs.proofs.Readings.{reading_is_one}
-use Rattle.job_equiv.specs.Answers.{AreSearched, ComesTo, FitsEquiv, IsEquivAnswer, IsPseudomanifold, LeadsOver, Reports, TellsDifference, TellsOneList, TellsSearches, meaning}
+use Rattle.job_equiv.specs.Answers.{AreSearched, ComesTo, FitsEquiv, IsEquivAnswer, IsPseudomanifold, LeadsOver, Reports, ReportsEqual, ReportsSpent, TellsDifference, TellsOneList, TellsSearches, meaning}
 use Rattle.job_equiv.specs.Laws.{NoIsSound, VerdictTellsSearches, YesIsOneList}
+use Rattle.job_equiv.proofs.Fixed.{one_answer}
 
 -- ---- what is reported
 
@@ -31,23 +33,11 @@ own_spent k l plan r s h =
     subst Q (sym h.compared.second.ok.input) (subst P (sym h.compared.first.ok.input) h)
 
 coming_fits : (k l : ComplexView) (plan : Numbers) (r s : ReportView) (status : Status) (xs : List ℕ) (p : Option Reports) → p ≡ Some (r, s) → ComesTo k l plan r s status xs → FitsEquiv plan status p
-coming_fits k l plan r s status xs p e (inl a) = record {
-  yes = λ y. record { first = r; second = s; reports = e; flips = a.flips; pairs = a.pairs; equal = own_equal k l plan r s status xs a };
-  no = λ n. let z : Yes ≡ No = sym a.is_yes ∙ n in cc;
-  undecided = λ u. let z : Yes ≡ Undecided = sym a.is_yes ∙ u in cc;
-}
-coming_fits k l plan r s status xs p e (inr a) = record {
-  yes = λ y. let z : Undecided ≡ Yes = sym a.is_undecided ∙ y in cc;
-  no = λ n. let z : Undecided ≡ No = sym a.is_undecided ∙ n in cc;
-  undecided = λ u. record { first = r; second = s; reports = e; spent = own_spent k l plan r s a.spent };
-}
+coming_fits k l plan r s status xs p e (inl a) = fits_yes None (ReportsEqual plan) (ReportsSpent plan) status p a.is_yes (record { first = r; second = s; reports = e; flips = a.flips; pairs = a.pairs; equal = own_equal k l plan r s status xs a })
+coming_fits k l plan r s status xs p e (inr a) = fits_undecided None (ReportsEqual plan) (ReportsSpent plan) status p a.is_undecided (record { first = r; second = s; reports = e; spent = own_spent k l plan r s a.spent })
 
 answer_fits : (plan : Numbers) (x : Pair) (status : Status) (xs : List ℕ) (p : Option Reports) → IsEquivAnswer plan x status xs p → FitsEquiv plan status p
-answer_fits plan x status xs p (inl a) = record {
-  yes = λ y. let z : No ≡ Yes = sym a.is_no ∙ y in cc;
-  no = λ n. a.reports;
-  undecided = λ u. let z : No ≡ Undecided = sym a.is_no ∙ u in cc;
-}
+answer_fits plan x status xs p (inl a) = fits_no None (ReportsEqual plan) (ReportsSpent plan) status p a.is_no a.reports
 answer_fits plan x status xs p (inr a) = coming_fits x.0 x.1 plan a.search.first a.search.second status xs p a.search.reports a.search.comes
 
 -- ---- how it ends
@@ -59,21 +49,9 @@ coming_ends k l plan r s status xs (inr a) = inr a.is_undecided
 search_ends : (k l : ComplexView) (plan : Numbers) (status : Status) (xs : List ℕ) (p : Option Reports) → AreSearched k l plan status xs p → EndsSearch status
 search_ends k l plan status xs p a = coming_ends k l plan a.search.first a.search.second status xs a.search.comes
 
-answer_ends : (plan : Numbers) (x : Pair) (status : Status) (xs : List ℕ) (p : Option Reports) → IsEquivAnswer plan x status xs p → (status ≡ No) ⊎ EndsSearch status
+answer_ends : (plan : Numbers) (x : Pair) (status : Status) (xs : List ℕ) (p : Option Reports) → IsEquivAnswer plan x status xs p → MayEnd status
 answer_ends plan x status xs p (inl a) = inl a.is_no
 answer_ends plan x status xs p (inr a) = inr (search_ends x.0 x.1 plan status xs p a)
-
-search_verdict : (status : Status) → EndsSearch status → HasVerdict status
-search_verdict status (inl y) = inl (inl y)
-search_verdict status (inr u) = inr u
-
-verdict : (status : Status) → (status ≡ No) ⊎ EndsSearch status → HasVerdict status
-verdict status (inl n) = inl (inr n)
-verdict status (inr h) = search_verdict status h
-
-no_end : (status : Status) → EndsSearch status → status ≡ No → ⊥
-no_end status (inl y) n = let z : Yes ≡ No = sym y ∙ n in cc
-no_end status (inr u) n = let z : Undecided ≡ No = sym u ∙ n in cc
 
 -- ---- what an answer to the bytes tells
 
@@ -84,34 +62,12 @@ done_searches plan bytes status xs p d e = told d.answer
     told (inl a) = absurd (no_end status e a.is_no)
     told (inr a) = record { complexes = d.told; input = d.input; alike = a.alike; first = a.search.first; second = a.search.second; reports = a.search.reports; first_history = a.first; second_history = a.second }
 
--- a Yes has its list
-yes_list : (plan : Numbers) (bytes : List ℕ) (status : Status) (xs : List ℕ) (p : Option Reports) (d : IsDone (meaning plan) bytes status xs p) (r s : ReportView) → p ≡ Some (r, s) → status ≡ Yes → ComesTo d.told.0 d.told.1 plan r s status xs → TellsOneList bytes xs plan p
-yes_list plan bytes status xs p d r s e y (inl a) = record {
-  complexes = d.told;
-  input = d.input;
-  first = r;
-  second = s;
-  reports = e;
-  flips = a.flips;
-  pairs = a.pairs;
-  equal = a.equal;
-  shows = certified;
-  says = a.says;
-}
-  where
-    certified : EqualCert d.told.0 a.flips a.pairs d.told.1
-    certified =
-        let P : ComplexView → Type 0 = λ x. EqualCert x a.flips a.pairs s.input in
-        let Q : ComplexView → Type 0 = λ x. EqualCert d.told.0 a.flips a.pairs x in
-        subst Q a.equal.compared.second.ok.input (subst P a.equal.compared.first.ok.input a.equal.joined.certificate)
-yes_list plan bytes status xs p d r s e y (inr a) = let z : Undecided ≡ Yes = sym a.is_undecided ∙ y in cc
-
 done_list : (plan : Numbers) (bytes : List ℕ) (status : Status) (xs : List ℕ) (p : Option Reports) (d : IsDone (meaning plan) bytes status xs p) → status ≡ Yes → TellsOneList bytes xs plan p
 done_list plan bytes status xs p d y = told d.answer
   where
     told : IsEquivAnswer plan d.told status xs p → TellsOneList bytes xs plan p
     told (inl a) = absurd (no_end status (inl y) a.is_no)
-    told (inr a) = yes_list plan bytes status xs p d a.search.first a.search.second a.search.reports y a.search.comes
+    told (inr a) = record { complexes = d.told; input = d.input; first = a.search.first; second = a.search.second; reports = a.search.reports; list = a.certificate y }
 
 done_difference : (plan : Numbers) (bytes : List ℕ) (status : Status) (xs : List ℕ) (p : Option Reports) (d : IsDone (meaning plan) bytes status xs p) → status ≡ No → TellsDifference bytes xs
 done_difference plan bytes status xs p d n = told d.answer
@@ -123,11 +79,11 @@ done_difference plan bytes status xs p d n = told d.answer
 pub lawful : (plan : Numbers) → Lawful (meaning plan)
 lawful plan = record {
   reads = reading_is_one IsPseudomanifold;
-  verdict = λ s h. verdict s h;
+  verdict = λ s h. end_verdict s h;
   ends = λ x s xs p a. answer_ends plan x s xs p a;
   fits = λ x s xs p a. answer_fits plan x s xs p a;
   headline = λ bytes s xs p h d. record { told = done_searches plan bytes s xs p d; certificate = done_list plan bytes s xs p d };
-  one = λ z. absurd z;
+  one = λ z x s t xs ys p q a b. one_answer plan x s t xs ys p q z a b;
 }
 
 pub no_is_sound : NoIsSound

@@ -1,2 +1,5 @@
 mod Searched
+mod Certified
+mod Differing
+mod Fixed
 pub mod Laws

@@ -26,12 +26,13 @@ use Rattle.job_answer.specs.declared.status.Status.TheVariants.{No}
 use Rattle.job_pairs.specs.Readings.{IsFirstUnfit, Pair, reads, reads_fit}
 use Rattle.job_equiv.specs.Texts.{difference_text}
 use Rattle.job_equiv.specs.Answers.{ComesTo, IsPseudomanifold, Reports, Searches, ShowsHistory, meaning}
+use Rattle.job_equiv.proofs.Certified.{certified_coming}
 
-first_ok : (k l : ComplexView) (plan : Numbers) (r s : ReportView) (status : Status) (xs : List ℕ) → ComesTo k l plan r s status xs → ReportOk k plan r
+pub first_ok : (k l : ComplexView) (plan : Numbers) (r s : ReportView) (status : Status) (xs : List ℕ) → ComesTo k l plan r s status xs → ReportOk k plan r
 first_ok k l plan r s status xs (inl a) = a.equal.compared.first.ok
 first_ok k l plan r s status xs (inr a) = a.spent.compared.first.ok
 
-second_ok : (k l : ComplexView) (plan : Numbers) (r s : ReportView) (status : Status) (xs : List ℕ) → ComesTo k l plan r s status xs → ReportOk l plan s
+pub second_ok : (k l : ComplexView) (plan : Numbers) (r s : ReportView) (status : Status) (xs : List ℕ) → ComesTo k l plan r s status xs → ReportOk l plan s
 second_ok k l plan r s status xs (inl a) = a.equal.compared.second.ok
 second_ok k l plan r s status xs (inr a) = a.spent.compared.second.ok
 
@@ -39,15 +40,18 @@ shows : (k : ComplexView) (plan : Numbers) (r : ReportView) → KeepsTextLimits 
 shows k plan r limits numbers ok = record { ok = ok; shown = report_is_shown k plan r limits numbers ok }
 
 -- so searches from complexes that differ in no fact are the answer
-pub searches_judged : (plan : Numbers) (bytes : List ℕ) (x : Pair) (status : Status) (xs : List ℕ) (p : Option Reports) → reads IsPseudomanifold bytes (Ok x) → Alike x.0 x.1 → KeepsTextLimits x.0 → KeepsTextLimits x.1 → KeepsLimits plan → Searches x.0 x.1 plan status xs p → Judges (meaning plan) bytes status xs p
-searches_judged plan bytes x status xs p input alike first second numbers h = inr (record {
+pub searches_judged : (plan : Numbers) (bytes : List ℕ) (x : Pair) (status : Status) (xs : List ℕ) (p : Option Reports) → reads IsPseudomanifold bytes (Ok x) → IsPseudomanifold x.0 → IsPseudomanifold x.1 → Alike x.0 x.1 → KeepsTextLimits x.0 → KeepsTextLimits x.1 → KeepsLimits plan → Searches x.0 x.1 plan status xs p → Judges (meaning plan) bytes status xs p
+searches_judged plan bytes x status xs p input near far alike first second numbers h = inr (record {
   told = x;
   input = input;
   answer = inr (record {
+    near = record { limits = first; pseudomanifold = near };
+    far = record { limits = second; pseudomanifold = far };
     alike = alike;
     search = h;
     first = shows x.0 plan h.first first numbers (first_ok x.0 x.1 plan h.first h.second status xs h.comes);
     second = shows x.1 plan h.second second numbers (second_ok x.0 x.1 plan h.first h.second status xs h.comes);
+    certificate = certified_coming x.0 x.1 plan h.first h.second status xs first second numbers h.comes;
   });
 })
 
@@ -91,7 +95,7 @@ difference_judged plan bytes x t u d status xs e h n g m first never negative sa
 })
 
 pub search_judged : {E : Type 0} (plan : Numbers) (bytes : List ℕ) (x : Pair) (t u : Bool) (result : Result (Said × Option Reports) E) → complexes_of bytes ≡ Ok x → IsTrue t ↔ IsPseudomanifold x.0 → t ≡ true → IsTrue u ↔ IsPseudomanifold x.1 → u ≡ true → Alike x.0 x.1 → KeepsTextLimits x.0 → KeepsTextLimits x.1 → KeepsLimits plan → IfOk result (λ a. Searches x.0 x.1 plan a.0.status a.0.text.items a.1) → IfOk result (λ a. Judges (meaning plan) bytes a.0.status a.0.text.items a.1)
-search_judged plan bytes x t u (Ok a) e h n g m alike first second numbers s = searches_judged plan bytes x a.0.status a.0.text.items a.1 (fit_read bytes x t u e h n g m) alike first second numbers s
+search_judged plan bytes x t u (Ok a) e h n g m alike first second numbers s = searches_judged plan bytes x a.0.status a.0.text.items a.1 (fit_read bytes x t u e h n g m) (is_fit x.0 t h n) (is_fit x.1 u g m) alike first second numbers s
 search_judged plan bytes x t u (Err o) e h n g m alike first second numbers s = tt
 
 -- the quits of what a search found

@@ -1,43 +1,52 @@
 -- The laws of the job `sphere`.
-use Rattle.std.proofs.Common.{◌≡◌, ℕ, ◌+◌, ◌⊎◌, inl, inr, List, ◌∷◌, ◌++◌, codes, length, Option, Some, sym, ◌∙◌, ap, subst, arith}
+use Rattle.std.proofs.Common.{◌≡◌, ℕ, inl, inr, List, ◌∷◌, ◌++◌, codes, Option, Some, None, sym, ◌∙◌, ap, refl}
 use Rattle.complex_core.specs.Complexes.{ComplexView}
 use Rattle.descent_laws.specs.Laws.{IsCycle}
 use Rattle.sphere_text.proofs.Cycles.{cycle_is_decided}
 use Rattle.anneal_plan.specs.Numbers.{Numbers}
-use Rattle.round_run.specs.Reports.{ReportView, ReportOk, IsSphere, IsUndecided}
+use Rattle.round_run.specs.Found.{IsFound, report_of}
+use Rattle.round_run.specs.Reports.{ReportView}
+use Rattle.round_run.specs.declared.search.SphereFound.{SphereFound}
+use Rattle.round_run.specs.declared.search.SphereFound.TheVariants as found
 use Rattle.job_answer.specs.Alone.{complex_of}
 use Rattle.job_answer.specs.Meanings.{IsDone, Lawful, Same}
-use Rattle.job_answer.specs.Statuses.{EndsSearch, HasVerdict}
+use Rattle.job_answer.specs.Statuses.{EndsSearch}
 use Rattle.job_answer.proofs.Meanings.{verdict_done, input_done, by_read}
 use Rattle.job_answer.specs.declared.status.Status.{Status}
-use Rattle.job_answer.specs.declared.status.Status.TheVariants.{Yes, No, Undecided}
-use Rattle.job_sphere.specs.Answers.{IsObstructed, ComesTo, IsSearched, IsSphereAnswer, TellsObstacle, TellsSearch, TellsCertificate, FitsSphere, meaning}
+use Rattle.job_answer.specs.declared.status.Status.TheVariants.{Yes, No}
+use Rattle.search_lines.specs.Ends.{MayEnd}
+use Rattle.search_lines.proofs.Ends.{end_verdict, fits_no, fits_undecided, fits_yes, no_end, search_verdict}
+use Rattle.job_sphere.specs.Answers.{IsObstructed, ComesTo, IsSearched, IsSphereAnswer, TellsObstacle, TellsSearch, TellsCertificate, ReportsSphere, ReportsSpent, FitsSphere, meaning}
+use Rattle.job_sphere.specs.Decisions.{status_of, text_of}
+use Rattle.job_sphere.specs.declared.decision.Decision.TheVariants.{Searched}
 use Rattle.job_sphere.specs.Laws.{NoIsSound, YesIsCertified, VerdictTellsSearch, CyclesAreDecided}
 use Rattle.job_sphere.proofs.Obstructed.{no_obstacle, same_line}
-use Rattle.job_sphere.proofs.Ends.{descents_of, not_both, ok_of}
-use Rattle.report_text.proofs.Searches.{cycle_is_found, descent_report_is_one}
+use Rattle.job_sphere.proofs.Ends.{one_found, own_sphere, own_spent}
+use Rattle.report_text.proofs.Searches.{cycle_is_found}
 
 -- ---- one answer where no round is made
 
-report_of_one : (k : ComplexView) (plan : Numbers) (r q : ReportView) → plan.rounds ≡ 0 → ReportOk k plan r → ReportOk k plan q → length r.descents ≡ length r.rounds + 1 → length q.descents ≡ length q.rounds + 1 → r ≡ q
-report_of_one k plan r q z a b m n = descent_report_is_one k plan r q z a b (omega (arith, z, a.few, m)) (omega (arith, z, b.few, n))
+-- what a search came to, and what is said of it
+abbrev found_of : (k : ComplexView) (plan : Numbers) (r : ReportView) (s : Status) (xs : List ℕ) → ComesTo k plan r s xs → SphereFound
+found_of k plan r s xs (inl a) = found.Sphere r
+found_of k plan r s xs (inr a) = found.Undecided r
 
--- a report comes to one thing
-same_coming : (k : ComplexView) (plan : Numbers) (r : ReportView) (s t : Status) (xs ys : List ℕ) → ComesTo k plan r s xs → ComesTo k plan r t ys → (s ≡ t) × (xs ≡ ys)
-same_coming k plan r s t xs ys (inl a) (inl b) = (a.is_yes ∙ sym b.is_yes, a.says ∙ sym b.says)
-same_coming k plan r s t xs ys (inl a) (inr b) = absurd (not_both k plan r a.sphere b.spent)
-same_coming k plan r s t xs ys (inr a) (inl b) = absurd (not_both k plan r b.sphere a.spent)
-same_coming k plan r s t xs ys (inr a) (inr b) = (a.is_undecided ∙ sym b.is_undecided, a.says ∙ sym b.says)
+is_found : (k : ComplexView) (plan : Numbers) (r : ReportView) (s : Status) (xs : List ℕ) (c : ComesTo k plan r s xs) → IsFound k plan (found_of k plan r s xs c) × (s ≡ status_of (Searched (found_of k plan r s xs c))) × (xs ≡ text_of (Searched (found_of k plan r s xs c))) × (report_of (found_of k plan r s xs c) ≡ r)
+is_found k plan r s xs (inl a) = (a.sphere, a.is_yes, a.says, refl)
+is_found k plan r s xs (inr a) = (a.spent, a.is_undecided, a.says, refl)
 
 same_search : (plan : Numbers) (k : ComplexView) (s t : Status) (xs ys : List ℕ) (p q : Option ReportView) → plan.rounds ≡ 0 → IsSearched k plan s xs p → IsSearched k plan t ys q → Same s t xs ys p q
 same_search plan k s t xs ys p q z a b =
-    let r : ReportView = a.search.report in
-    let c : ComesTo k plan r s xs = a.search.comes in
-    let d : ComesTo k plan b.search.report t ys = b.search.comes in
-    let i : r ≡ b.search.report = report_of_one k plan r b.search.report z (ok_of k plan r s xs c) (ok_of k plan b.search.report t ys d) (descents_of k plan r s xs c) (descents_of k plan b.search.report t ys d) in
-    let Q : ReportView → Type 0 = λ v. ComesTo k plan v t ys in
-    let o : (s ≡ t) × (xs ≡ ys) = same_coming k plan r s t xs ys c (subst Q (sym i) d) in
-    record { statuses = o.0; texts = o.1; reports = a.search.reports ∙ ap (λ (v : ReportView). Some v) i ∙ sym b.search.reports }
+    let f : SphereFound = found_of k plan a.search.report s xs a.search.comes in
+    let g : SphereFound = found_of k plan b.search.report t ys b.search.comes in
+    let m = is_found k plan a.search.report s xs a.search.comes in
+    let n = is_found k plan b.search.report t ys b.search.comes in
+    let one : f ≡ g = one_found k plan f g z m.0 n.0 in
+    record {
+      statuses = m.1 ∙ ap (λ (x : SphereFound). status_of (Searched x)) one ∙ sym n.1;
+      texts = m.2 ∙ ap (λ (x : SphereFound). text_of (Searched x)) one ∙ sym n.2;
+      reports = a.search.reports ∙ ap (λ (r : ReportView). Some r) (sym m.3 ∙ ap report_of one ∙ n.3) ∙ sym b.search.reports;
+    }
 
 same_obstruction : (k : ComplexView) (s t : Status) (xs ys : List ℕ) (p q : Option ReportView) → IsObstructed k s xs p → IsObstructed k t ys q → Same s t xs ys p q
 same_obstruction k s t xs ys p q a b = record {
@@ -54,31 +63,12 @@ same_sphere plan k s t xs ys p q z (inr a) (inr b) = same_search plan k s t xs y
 
 -- ---- what is reported
 
--- the report of a search from a complex is one from its own input
-own_sphere : (k : ComplexView) (plan : Numbers) (r : ReportView) → IsSphere k plan r → IsSphere r.input plan r
-own_sphere k plan r h = let P : ComplexView → Type 0 = λ l. IsSphere l plan r in subst P (sym h.ok.input) h
-
-own_spent : (k : ComplexView) (plan : Numbers) (r : ReportView) → IsUndecided k plan r → IsUndecided r.input plan r
-own_spent k plan r h = let P : ComplexView → Type 0 = λ l. IsUndecided l plan r in subst P (sym h.ok.input) h
-
 coming_fits : (k : ComplexView) (plan : Numbers) (r : ReportView) (s : Status) (xs : List ℕ) (p : Option ReportView) → p ≡ Some r → ComesTo k plan r s xs → FitsSphere plan s p
-coming_fits k plan r s xs p e (inl a) = record {
-  yes = λ y. record { report = r; reports = e; sphere = own_sphere k plan r a.sphere };
-  no = λ n. let z : Yes ≡ No = sym a.is_yes ∙ n in cc;
-  undecided = λ u. let z : Yes ≡ Undecided = sym a.is_yes ∙ u in cc;
-}
-coming_fits k plan r s xs p e (inr a) = record {
-  yes = λ y. let z : Undecided ≡ Yes = sym a.is_undecided ∙ y in cc;
-  no = λ n. let z : Undecided ≡ No = sym a.is_undecided ∙ n in cc;
-  undecided = λ u. record { report = r; reports = e; spent = own_spent k plan r a.spent };
-}
+coming_fits k plan r s xs p e (inl a) = fits_yes None (ReportsSphere plan) (ReportsSpent plan) s p a.is_yes (record { report = r; reports = e; sphere = own_sphere k plan r a.sphere })
+coming_fits k plan r s xs p e (inr a) = fits_undecided None (ReportsSphere plan) (ReportsSpent plan) s p a.is_undecided (record { report = r; reports = e; spent = own_spent k plan r a.spent })
 
 sphere_fits : (plan : Numbers) (k : ComplexView) (s : Status) (xs : List ℕ) (p : Option ReportView) → IsSphereAnswer plan k s xs p → FitsSphere plan s p
-sphere_fits plan k s xs p (inl a) = record {
-  yes = λ y. let z : No ≡ Yes = sym a.is_no ∙ y in cc;
-  no = λ n. a.reports;
-  undecided = λ u. let z : No ≡ Undecided = sym a.is_no ∙ u in cc;
-}
+sphere_fits plan k s xs p (inl a) = fits_no None (ReportsSphere plan) (ReportsSpent plan) s p a.is_no a.reports
 sphere_fits plan k s xs p (inr a) = coming_fits k plan a.search.report s xs p a.search.reports a.search.comes
 
 -- ---- how it ends
@@ -87,21 +77,9 @@ coming_ends : (k : ComplexView) (plan : Numbers) (r : ReportView) (s : Status) (
 coming_ends k plan r s xs (inl a) = inl a.is_yes
 coming_ends k plan r s xs (inr a) = inr a.is_undecided
 
-sphere_ends : (plan : Numbers) (k : ComplexView) (s : Status) (xs : List ℕ) (p : Option ReportView) → IsSphereAnswer plan k s xs p → (s ≡ No) ⊎ EndsSearch s
+sphere_ends : (plan : Numbers) (k : ComplexView) (s : Status) (xs : List ℕ) (p : Option ReportView) → IsSphereAnswer plan k s xs p → MayEnd s
 sphere_ends plan k s xs p (inl a) = inl a.is_no
 sphere_ends plan k s xs p (inr a) = inr (coming_ends k plan a.search.report s xs a.search.comes)
-
-search_verdict : (s : Status) → EndsSearch s → HasVerdict s
-search_verdict s (inl y) = inl (inl y)
-search_verdict s (inr u) = inr u
-
-sphere_verdict : (s : Status) → (s ≡ No) ⊎ EndsSearch s → HasVerdict s
-sphere_verdict s (inl n) = inl (inr n)
-sphere_verdict s (inr h) = search_verdict s h
-
-no_end : (s : Status) → EndsSearch s → s ≡ No → ⊥
-no_end s (inl y) n = let z : Yes ≡ No = sym y ∙ n in cc
-no_end s (inr u) n = let z : Undecided ≡ No = sym u ∙ n in cc
 
 -- ---- what an answer to the bytes tells
 
@@ -129,7 +107,7 @@ done_obstacle plan bytes s xs p d n = told d.answer
 pub lawful : (plan : Numbers) → Lawful (meaning plan)
 lawful plan = record {
   reads = by_read complex_of;
-  verdict = λ s h. sphere_verdict s h;
+  verdict = λ s h. end_verdict s h;
   ends = λ k s xs p a. sphere_ends plan k s xs p a;
   fits = λ k s xs p a. sphere_fits plan k s xs p a;
   headline = λ bytes s xs p h d. record { told = done_search plan bytes s xs p d; certificate = done_certificate plan bytes s xs p d };

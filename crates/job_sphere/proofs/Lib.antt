@@ -1,4 +1,5 @@
-mod Ends
-mod Obstructed
+pub mod Ends
+pub mod Histories
+pub mod Obstructed
 mod Searched
 pub mod Laws

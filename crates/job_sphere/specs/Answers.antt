@@ -11,7 +11,6 @@ use Rattle.descent_laws.specs.Laws.{IsCycle}
 use Rattle.anneal_plan.specs.Numbers.{Numbers}
 use Rattle.cert_text.specs.Statements.{Sphere}
 use Rattle.sphere_text.specs.Texts.{certified}
-use Rattle.round_run.specs.Gates.{all_quits_at}
 use Rattle.round_run.specs.Reports.{ReportView, ReportOk, IsSphere, IsUndecided}
 use Rattle.report_text.specs.Shown.{told_flips, IsReported}
 use Rattle.job_answer.specs.Alone.{complex_of}
@@ -20,6 +19,7 @@ use Rattle.job_answer.specs.Statuses.{EndsSearch}
 use Rattle.job_answer.specs.declared.status.Status.{Status}
 use Rattle.job_answer.specs.declared.status.Status.TheVariants.{Yes, No, Undecided}
 use Rattle.job_replay.specs.Answers.{TellsCertified}
+use Rattle.search_lines.specs.Ends.{Fits, MayEnd}
 use Rattle.job_sphere.specs.Texts.{obstacle_text, found_text, undecided_text}
 
 -- ---- the answer to a complex
@@ -140,15 +140,8 @@ pub record ReportsSpent (plan : Numbers) (found : Option ReportView) : Type 0 wh
   pub spent : IsUndecided report.input plan report
 
 -- what is reported with each verdict
-pub record FitsSphere (plan : Numbers) (status : Status) (found : Option ReportView) : Type 0 where
-  pub yes : status ≡ Yes → ReportsSphere plan found
-  pub no : status ≡ No → found ≡ None
-  pub undecided : status ≡ Undecided → ReportsSpent plan found
-
--- how many quits of each worker are reported, counted from 0
-abbrev pub quits_of : Option ReportView → ℕ → ℕ
-quits_of None = λ i. 0
-quits_of (Some r) = all_quits_at r.rounds
+abbrev pub FitsSphere : Numbers → Status → Option ReportView → Type 0
+FitsSphere plan = Fits None (ReportsSphere plan) (ReportsSpent plan)
 
 -- Of at most 4,194,304 bytes a complex is read, and judged or searched. The verdicts are Yes, No and Undecided, and a search is
 -- reported.
@@ -159,7 +152,7 @@ meaning plan = record {
   reads = by complex_of;
   answers = IsSphereAnswer plan;
   nothing = None;
-  may_end = λ status. (status ≡ No) ⊎ EndsSearch status;
+  may_end = MayEnd;
   fits = FitsSphere plan;
   is_fixed = plan.rounds ≡ 0;
   headline = ShowsSearch plan;

@@ -1,18 +1,16 @@
 // The job `sphere`, from bytes to what it says.
 ghost use Rattle.std.specs.Prelude.{◌≤◌, IfOk, length};
-ghost use Rattle.anneal_plan.specs.Numbers.{KeepsLimits as KeepsNumbers};
-ghost use Rattle.facet_text.specs.Writing.{KeepsLimits};
 ghost use Rattle.round_run.specs.Gates.{Rise};
 ghost use Rattle.job_answer.specs.Meanings.{Judges};
-ghost use Rattle.job_sphere.specs.Answers.{Searches, meaning, quits_of};
+ghost use Rattle.job_sphere.specs.Decisions.{Tells, quits_of};
+ghost use Rattle.job_sphere.specs.Answers.{meaning};
 
+use crate::decision::{Decision, decide};
 use crate::text::{found_text, obstacle_text, undecided_text};
 use anneal_plan::Plan;
-use complex_core::Complex;
-use flip_laws::cannot_reach;
 use held_stars::Gate;
 use job_answer::{Said, Status, plain, read_alone, refuse};
-use round_run::{Report, SphereFound, search_sphere};
+use round_run::{Report, SphereFound};
 use std::alloc::{AllocError, Global};
 use std::marker::Send;
 use std::thread::Threads;
@@ -20,28 +18,20 @@ use std::thread::Threads;
 /// The most bytes of an input.
 pub const MOST_BYTES: usize = 4_194_304;
 
-// Searches for a sphere, and tells what was found.
-fn search<R: Threads + Sync, G: Gate + Send>(
-    rt: &R,
-    alloc: Global,
-    complex: Complex,
-    plan: &Plan,
-    gates: &mut [G],
-) -> Result<(Said, Option<Report>), AllocError>
-    requires limits { KeepsLimits complex }
-    requires numbers { KeepsNumbers plan.now }
-    requires gates { 16 ≤ length gates.old }
-    ensures searched { IfOk result (λ a. Searches complex plan.now a.0.status a.0.text.items a.1) }
-    ensures quits { IfOk result (λ a. Rise (λ g. G.quits g) gates.old gates.new (quits_of a.1)) }
-    ensures later { Rise (λ g. G.quits g) gates.old gates.new (λ _. 0) }
+// Tells what was found of a complex.
+fn tell(alloc: Global, decision: Decision) -> Result<(Said, Option<Report>), AllocError>
+    ensures { IfOk result (λ a. Tells decision a.0.status a.0.text.items a.1) }
 {
-    match search_sphere(rt, alloc, &complex, plan, gates)? {
-        SphereFound::Sphere(report) => {
+    match decision {
+        Decision::Excluded(obstacle) => {
+            Ok((plain(Status::No, obstacle_text(alloc, obstacle)?), None))
+        }
+        Decision::Searched(SphereFound::Sphere(report)) => {
             let text = found_text(alloc, &report)?;
             let status = Status::Yes;
             Ok((Said { status, text }, Some(report)))
         }
-        SphereFound::Undecided(report) => {
+        Decision::Searched(SphereFound::Undecided(report)) => {
             let text = undecided_text(alloc, &report)?;
             let status = Status::Undecided;
             Ok((Said { status, text }, Some(report)))
@@ -75,10 +65,7 @@ pub fn sphere<R: Threads + Sync, G: Gate + Send>(
 {
     plan.keeps_limits();
     match read_alone(alloc, bytes) {
-        Ok(complex) => match cannot_reach(alloc, &complex)? {
-            Some(obstacle) => Ok((plain(Status::No, obstacle_text(alloc, obstacle)?), None)),
-            None => search(rt, alloc, complex, plan, gates),
-        },
+        Ok(complex) => tell(alloc, decide(rt, alloc, &complex, plan, gates)?),
         Err(fault) => Ok((refuse(alloc, fault)?, None)),
     }
 }

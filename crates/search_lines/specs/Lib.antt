@@ -1,2 +1,3 @@
--- The first lines of what a search is answered.
+-- What jobs that make searches have in common: their first lines, and how they end.
 pub mod Lines
+pub mod Ends

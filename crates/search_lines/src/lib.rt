@@ -1,4 +1,4 @@
-//! The first lines of what a search is answered. It touches nothing.
+//! What jobs that make searches have in common: the first lines of their answers, and how they end. It touches nothing.
 #![tactic(auto)]
 
 ghost use Rattle.std.specs.Prelude.{◌≡◌, IfOk, string_bytes};

@@ -1,6 +1,5 @@
-use Rattle.std.proofs.Common.{rules, subst, sym}
-use Rattle.equal_search.specs.Pairs.{AreSeeking}
-use Rattle.equal_search.proofs.Finding.{can_opened, found_if, least_of}
+use Rattle.std.proofs.Common.{rules}
+use Rattle.equal_search.proofs.Finding.{can_opened, found_if}
 use Rattle.equal_search.proofs.Seeking.{compared_first, seeking_here}
 use Rattle.equal_search.proofs.search.search_equal.Goals as goal
 

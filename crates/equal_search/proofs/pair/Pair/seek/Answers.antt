@@ -1,7 +1,5 @@
-use Rattle.std.proofs.Common.{rules}
 use Rattle.facet_iso.specs.Isomorphisms.{NoMap}
-use Rattle.equal_search.specs.Comparing.{told_end}
-use Rattle.equal_search.specs.Pairs.{AreSeeking}
+use Rattle.equal_text.specs.Lists.{told_end}
 use Rattle.equal_search.proofs.Counts.{both_more, later}
 use Rattle.equal_search.proofs.Finding.{found_if, least_of, when_none}
 use Rattle.equal_search.proofs.Seeking.{can_first, can_second, compared, seeking_on, undecided}

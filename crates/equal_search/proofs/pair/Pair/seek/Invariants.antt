@@ -1,7 +1,8 @@
 use Rattle.std.proofs.Common.{◌-◌, IfNone, IfSome, length}
 use Rattle.facet_iso.specs.Isomorphisms.{IsLeastMap, NoMap}
 use Rattle.round_run.specs.Gates.{Rise}
-use Rattle.equal_search.specs.Comparing.{quits_of_both, told_end}
+use Rattle.equal_text.specs.Lists.{told_end}
+use Rattle.equal_search.specs.Comparing.{quits_of_both}
 use Rattle.equal_search.specs.Pairs.{AreSeeking}
 use Rattle.equal_search.proofs.pair.Pair.seek.Given as goal
 
