@@ -5,7 +5,8 @@ use Rattle.job_answer.specs.Meanings.{Lawful, Same}
 use Rattle.job_answer.proofs.Meanings.{IsDoneShort, verdict_done}
 use Rattle.job_answer.specs.declared.status.Status.{Status}
 use Rattle.job_answer.specs.declared.status.Status.TheVariants.{Yes, No}
-use Rattle.job_make.specs.Answers.{Recipe, IsMade, TellsMade, made, meaning}
+use Rattle.job_make.specs.Recipes.{Recipe, made}
+use Rattle.job_make.specs.Answers.{IsMade, TellsMade, meaning}
 use Rattle.job_make.specs.Laws.{YesTellsMade, NeverSaysNo}
 use Rattle.job_make.proofs.Telling.{line_is_read}
 

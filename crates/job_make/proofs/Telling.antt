@@ -20,7 +20,8 @@ use Rattle.pseudo_test.specs.Chains.{StronglyConnected}
 use Rattle.orient_test.specs.Signs.{Orientable}
 use Rattle.make_complex.specs.Named.{named_euler, is_orientable}
 use Rattle.job_answer.specs.declared.status.Status.TheVariants.{Yes}
-use Rattle.job_make.specs.Answers.{Recipe, IsMade, made}
+use Rattle.job_make.specs.Recipes.{Recipe, CanMake, LooksNamed, made}
+use Rattle.job_make.specs.Answers.{IsMade}
 use Rattle.stars.specs.StarViews.{UsesUpTo}
 use Rattle.stars.proofs.Mapping.{uses_of}
 
@@ -51,19 +52,22 @@ small_facets k u (f ∷ fs) h = (
 pub limits_kept : (k : ComplexView) → IsComplex k → 0 < k.dim → UsesUpTo k 4096 → length k.facets ≤ 20000 → length (used k.facets) ≤ 4096 → KeepsLimits k
 limits_kept k h dim u facets labels = record { complex = h; dim = dim; small = small_facets k u k.facets (λ f t. t); few_facets = facets; few_labels = labels }
 
--- what is said of a made complex
-pub is_made : (r : Recipe) (k : ComplexView) (text line : List ℕ) → k ≡ made r → IsComplex k → 1 ≤ r.dim → k.dim ≡ r.dim → UsesUpTo k 4096 → length k.facets ≤ 20000 → length (used k.facets) ≤ 4096 → Closed k.facets → StronglyConnected k.facets → eulers.euler k.facets ≡ named_euler r.kind r.dim → Orientable k.facets ↔ IsTrue (is_orientable r.kind) → line ≡ complex_line k.facets → text ≡ line → IsMade r Yes text
-is_made r k text line e h low dim u facets labels closed strong number orientable says is =
-    let K : ComplexView → Type 0 = λ l. KeepsLimits l in
+-- a complex that is made keeps the limits, and looks as it was named
+pub keeps_all : (r : Recipe) (k : ComplexView) → CanMake r → IsComplex k → k.dim ≡ r.dim → UsesUpTo k 4096 → length k.facets ≤ 20000 → length (used k.facets) ≤ 4096 → KeepsLimits k
+keeps_all r k can h dim u facets labels = limits_kept k h (omega (arith, can.low, dim)) u facets labels
+
+pub looks_named : (r : Recipe) (k : ComplexView) → k ≡ made r → Closed k.facets → StronglyConnected k.facets → eulers.euler k.facets ≡ named_euler r.kind r.dim → Orientable k.facets ↔ IsTrue (is_orientable r.kind) → LooksNamed r
+looks_named r k e closed strong number orientable =
     let C : ComplexView → Type 0 = λ l. Closed l.facets in
     let S : ComplexView → Type 0 = λ l. StronglyConnected l.facets in
     let O : ComplexView → Type 0 = λ l. Orientable l.facets ↔ IsTrue (is_orientable r.kind) in
-    record {
-      is_yes = refl;
-      says = is ∙ says ∙ ap (λ (l : ComplexView). complex_line l.facets) e;
-      limits = subst K e (limits_kept k h (omega (arith, low, dim)) u facets labels);
-      looks = record { closed = subst C e closed; strong = subst S e strong; euler = euler_of (sym e) number; orientable = subst O e orientable };
-    }
-  where
-    euler_of : made r ≡ k → eulers.euler k.facets ≡ named_euler r.kind r.dim → eulers.euler (made r).facets ≡ named_euler r.kind r.dim
-    euler_of q t = ap (λ (l : ComplexView). eulers.euler l.facets) q ∙ t
+    record { closed = subst C e closed; strong = subst S e strong; euler = ap (λ (l : ComplexView). eulers.euler l.facets) (sym e) ∙ number; orientable = subst O e orientable }
+
+-- what is said of it
+pub is_made : (r : Recipe) (k : ComplexView) (text line : List ℕ) → k ≡ made r → KeepsLimits k → LooksNamed r → line ≡ complex_line k.facets → text ≡ line → IsMade r Yes text
+is_made r k text line e limits looks says is = record {
+  is_yes = refl;
+  says = is ∙ says ∙ ap (λ (l : ComplexView). complex_line l.facets) e;
+  limits = let K : ComplexView → Type 0 = λ l. KeepsLimits l in subst K e limits;
+  looks = looks;
+}

@@ -1,37 +1,12 @@
 -- What the job `make` answers.
-use Rattle.std.specs.Prelude.{◌≡◌, ◌↔◌, ℕ, IsTrue, List, Ok}
-use Rattle.complex_core.specs.Complexes.{ComplexView}
-use Rattle.face_counts.specs.Eulers.{euler}
-use Rattle.pseudo_test.specs.Ridges.{Closed}
-use Rattle.pseudo_test.specs.Chains.{StronglyConnected}
-use Rattle.orient_test.specs.Signs.{Orientable}
+use Rattle.std.specs.Prelude.{◌≡◌, ℕ, List, Ok}
 use Rattle.facet_text.specs.Writing.{KeepsLimits}
-use Rattle.make_complex.specs.declared.kind.Kind.{Kind}
-use Rattle.make_complex.specs.Named.{named_euler, is_orientable}
-use Rattle.make_complex.specs.Draws.{made_complex}
 use Rattle.job_answer.specs.Alone.{complex_of}
 use Rattle.job_answer.specs.Lines.{complex_line}
 use Rattle.job_answer.specs.Meanings.{Meaning}
 use Rattle.job_answer.specs.declared.status.Status.{Status}
 use Rattle.job_answer.specs.declared.status.Status.TheVariants.{Yes}
-
--- what is to be made
-pub record Recipe : Type 0 where
-  pub kind : Kind
-  pub dim : ℕ
-  pub draws : ℕ
-  pub seed : ℕ
-
--- what the generator makes of it
-abbrev pub made : Recipe → ComplexView
-made r = made_complex r.kind r.dim r.draws r.seed
-
--- it has the facts of its kind, which flips keep
-pub record LooksNamed (r : Recipe) : Type 0 where
-  pub closed : Closed (made r).facets
-  pub strong : StronglyConnected (made r).facets
-  pub euler : euler (made r).facets ≡ named_euler r.kind r.dim
-  pub orientable : Orientable (made r).facets ↔ IsTrue (is_orientable r.kind)
+use Rattle.job_make.specs.Recipes.{Recipe, LooksNamed, made}
 
 -- Yes always, with the line of what is made, which keeps the limits of an input and has the facts of its kind
 pub record IsMade (r : Recipe) (status : Status) (text : List ℕ) : Type 0 where

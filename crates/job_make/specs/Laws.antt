@@ -3,7 +3,8 @@ use Rattle.std.specs.Prelude.{◌≡◌, ℕ, List}
 use Rattle.job_answer.specs.Meanings.{Answers}
 use Rattle.job_answer.specs.declared.status.Status.{Status}
 use Rattle.job_answer.specs.declared.status.Status.TheVariants.{Yes, No}
-use Rattle.job_make.specs.Answers.{Recipe, TellsMade, meaning}
+use Rattle.job_make.specs.Recipes.{Recipe}
+use Rattle.job_make.specs.Answers.{TellsMade, meaning}
 
 -- at Yes the text tells what is made
 abbrev pub YesTellsMade : Type 0

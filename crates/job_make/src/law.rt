@@ -1,6 +1,7 @@
 // Laws of the job `make`.
 ghost use Rattle.job_answer.specs.Meanings.{Lawful};
-ghost use Rattle.job_make.specs.Answers.{Recipe, meaning};
+ghost use Rattle.job_make.specs.Recipes.{Recipe};
+ghost use Rattle.job_make.specs.Answers.{meaning};
 ghost use Rattle.job_make.specs.Laws.{YesTellsMade, NeverSaysNo};
 
 /// At Yes the text, read as an input, tells the complex of the generator, which is closed, strongly connected, and has the Euler

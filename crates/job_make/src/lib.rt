@@ -3,6 +3,8 @@
 
 mod job;
 mod law;
+mod recipe;
 
 pub use job::say_made;
 pub use law::make_law;
+pub use recipe::Recipe;

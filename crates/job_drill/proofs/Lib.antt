@@ -1,0 +1,2 @@
+mod Drilled
+pub mod Laws

@@ -1,0 +1,4 @@
+-- What the job `drill` answers.
+pub mod Texts
+pub mod Answers
+pub mod Laws
