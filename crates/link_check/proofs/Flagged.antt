@@ -15,7 +15,7 @@ use Rattle.std.proofs.lemmas.List.Kept.{IsStrictlySortedBy-filter}
 use Rattle.std.proofs.lemmas.Map.Keys.{Less-from_sorted}
 use Rattle.complex_core.specs.Labels.{holds, face_cmp}
 use Rattle.complex_core.specs.Rising.{rising}
-use Rattle.complex_core.specs.Complexes.{ComplexView, IsComplex, over, is_face, is_held}
+use Rattle.complex_core.specs.Complexes.{ComplexView, IsComplex, over, is_held}
 use Rattle.complex_core.specs.Subsets.{IsSubset, subsets_of}
 use Rattle.complex_core.proofs.Sets.{Above, above_head, above_tail, above_cons, sorted_none, sorted_rising, sorted_drop, any-rising}
 use Rattle.complex_core.proofs.SortAny.{sorted_any}

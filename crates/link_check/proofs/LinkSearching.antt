@@ -1,5 +1,5 @@
 -- Searches of the links of all vertices: what is known so far, and a link of dimension 0.
-use Rattle.std.proofs.Common.{◌≡◌, ℕ, zero, suc, ◌+◌, ◌-◌, ◌<◌, ◌≤◌, Bool, true, false, not, nat_eq, cond, ◌||◌, List, [], ◌∷◌, ◌++◌, length, length-append, map, take, drop, get_or, Result, Ok, Err, IfOk, sym, ◌∙◌, ap, refl, subst, arith, inl, inr}
+use Rattle.std.proofs.Common.{◌≡◌, ℕ, suc, ◌+◌, ◌<◌, ◌≤◌, Bool, true, false, not, nat_eq, cond, ◌||◌, List, [], ◌∷◌, ◌++◌, length, length-append, map, take, drop, get_or, Result, Ok, Err, IfOk, sym, ◌∙◌, ap, refl, subst, arith, inl, inr}
 use Rattle.std.specs.Prelude.{◌↔◌, slice_index}
 use Rattle.std.specs.List.{AllByRecursion, flat_map}
 use Rattle.std.specs.List.Sorted.{IsStrictlySortedBy}
@@ -8,25 +8,22 @@ use Rattle.std.specs.Cmp.Lexicographic.{pointwise}
 use Rattle.std.specs.Global.{Vec}
 use Rattle.std.specs.declared.cmp.Ordering.TheVariants.{Less, Equal, Greater}
 use Rattle.std.proofs.lemmas.Cmp.{nat_cmp_total}
-use Rattle.std.proofs.lemmas.List.{take_all}
 use Rattle.complex_core.specs.Labels.{IsFace, has, holds, with, without, face_cmp}
-use Rattle.complex_core.specs.Rising.{put, rising}
+use Rattle.complex_core.specs.Rising.{rising}
 use Rattle.complex_core.specs.Complexes.{ComplexView, IsComplex, IsFacet, over}
-use Rattle.complex_core.specs.Maps.{used, greatest}
-use Rattle.complex_core.proofs.Sets.{Above, above_head, above_tail, above_cons, sorted_none, sorted_front, sorted_rising}
+use Rattle.complex_core.specs.Maps.{used}
+use Rattle.complex_core.proofs.Sets.{above_head, above_tail, above_cons, sorted_none, sorted_front, sorted_rising}
 use Rattle.complex_core.proofs.Faces.{cmp_greater, less_cmp, cmp_less}
-use Rattle.complex_core.proofs.Laws.{nat_eq_is, nat_eq_same, same_set_itself, listed, or_left, or_right, either}
+use Rattle.complex_core.proofs.Laws.{nat_eq_is, nat_eq_same, same_set_itself, listed, or_left, or_right}
 use Rattle.complex_core.proofs.Members.{has_snoc, each_push, each_member, label_low, taken_more, without_has}
 use Rattle.complex_core.proofs.SubsetLists.{two, clash, above_at}
 use Rattle.complex_core.proofs.SetLists.{found_set, used_label}
 use Rattle.complex_core.proofs.Booleans.{left_off, right_off}
 use Rattle.std.specs.Cmp.{first_so}
-use Rattle.flip_rules.specs.Flips.{OfFaces}
 use Rattle.flip_rules.specs.Boundaries.{IsBoundary}
-use Rattle.flip_rules.specs.Certificates.{SphereCert}
 use Rattle.flip_rules.specs.declared.flip.Flip.{Flip}
-use Rattle.pseudo_test.specs.Ridges.{Closed, IsRidge}
-use Rattle.sphere_search.specs.Searches.{FlipAtMost, UsesAtMost, ShowsSphere, Answers}
+use Rattle.pseudo_test.specs.Ridges.{Closed}
+use Rattle.sphere_search.specs.Searches.{UsesAtMost, ShowsSphere, Answers}
 use Rattle.sphere_search.proofs.Labels.{all_below, labels_are_few}
 use Rattle.sphere_search.specs.declared.search.Searched.{Searched}
 use Rattle.sphere_search.specs.declared.search.Searched.TheVariants.{Found, Gave}
@@ -37,8 +34,6 @@ use Rattle.link_check.proofs.Vertices.{from_facet, has_used, vertex_has, link_cl
 use Rattle.link_check.proofs.Flagged.{rising_flags}
 use Rattle.link_check.specs.Flags.{flag_cmp, flags_of, flags, flags_at}
 use Rattle.link_check.specs.Sizes.{AreFlagsAt}
-use Rattle.link_check.specs.BadLinks.{NoneIsBad}
-use Rattle.pseudo_test.specs.Chains.{StronglyConnected}
 use Rattle.complex_core.specs.Links.{link}
 use Rattle.std.proofs.lemmas.List.{take-append-drop}
 use Rattle.std.proofs.lemmas.List.Folds.{list_any_at}
@@ -141,6 +136,7 @@ shows_link : (k : ComplexView) (v : ℕ) (flips : List Flip) → IsComplex k →
 shows_link k v flips c h s = record {
   faces = s.faces;
   leads = s.leads;
+  few = s.few;
   labels = labels_are_few 60001 (vertex_link k v) flips (all_below 60000 60001 (used (vertex_link k v).facets) (omega arith) (link_labels k v 60000 c h)) s;
 }
 
@@ -199,7 +195,7 @@ of_left done (p ∷ left) u h t = elim (two (nat_eq p.0 u)) [
   | inr e ↦ of_left done left u h.1 (sym (ap (λ b. b || has (map (λ q. q.0) left) u) e) ∙ t)
 ]
 
-quits_snoc : {R : Type 0} (quits : R → ℕ → ℕ) (left : List (ℕ × R)) (p : ℕ × R) (w : ℕ) → all_quits quits (left ++ p ∷ []) w ≡ all_quits quits left w + quits p.1 w
+pub quits_snoc : {R : Type 0} (quits : R → ℕ → ℕ) (left : List (ℕ × R)) (p : ℕ × R) (w : ℕ) → all_quits quits (left ++ p ∷ []) w ≡ all_quits quits left w + quits p.1 w
 quits_snoc quits [] p w = omega arith
 quits_snoc quits (q ∷ left) p w = omega (arith, quits_snoc quits left p w)
 
@@ -266,10 +262,6 @@ end_search {R} k spends spends_now quits count count_now done lists left (Open r
       others = λ v t out. h.others v (ap (λ vs. has vs v) all ∙ t) out;
     })
 
-pub end_quits : {R : Type 0} (quits : R → ℕ → ℕ) (count count_now : ℕ → ℕ) (lists : List (ℕ × Vec Flip)) (left : List (ℕ × R)) (links : Links R) → ((w : ℕ) → all_quits quits left w + count w ≤ count_now w) → Ends lists left links → LinksAre (λ _. Unit {0}) (λ os. (w : ℕ) → all_quits quits os w + count w ≤ count_now w) links
-end_quits quits count count_now lists left (Manifold shown) h e = tt
-end_quits {R} quits count count_now lists left (Open records) h e = let P : List (ℕ × R) → Type 0 = λ os. (w : ℕ) → all_quits quits os w + count w ≤ count_now w in subst P (sym e.0) h
-
 -- ---- the link of a vertex, by the flags of all vertices
 
 pub vertex_fits : (k : ComplexView) (v : ℕ) (all : List (List ℕ × List ℕ)) (none : List ℕ) → HasFlags k v all → none ≡ [] → (0 < v) × (length (with none v) ≤ 8)
@@ -306,9 +298,6 @@ rise_to k v i items e l at =
 -- the link of a vertex can be searched
 pub link_is_closed : (k l : ComplexView) (v : ℕ) → IsComplex k → Closed k.facets → l ≡ vertex_link k v → Closed l.facets
 link_is_closed k l v c closed e = let P : ComplexView → Type 0 = λ m. Closed m.facets in subst P (sym e) (link_closed k c v closed)
-
-pub link_is_strong : (k l : ComplexView) (v : ℕ) (all : List (List ℕ × List ℕ)) → HasFlags k v all → NoneIsBad k → l ≡ vertex_link k v → 0 < l.dim → StronglyConnected l.facets
-link_is_strong k l v all a none e = let P : ComplexView → Type 0 = λ m. 0 < m.dim → StronglyConnected m.facets in subst P (sym e) (λ d. (none.good (v ∷ []) a.has).strong (omega (arith, d)))
 
 pub link_is_small : (k l : ComplexView) (v : ℕ) → IsComplex k → UsesAtMost 60000 k → l ≡ vertex_link k v → UsesAtMost 60000 l
 link_is_small k l v c h e = let P : ComplexView → Type 0 = λ m. UsesAtMost 60000 m in subst P (sym e) (link_labels k v 60000 c h)

@@ -1,5 +1,5 @@
 -- In a closed complex the links of vertices are closed: a ridge of a link with the vertex is a ridge of the complex, in as many facets.
-use Rattle.std.proofs.Common.{◌≡◌, ◌≢◌, ℕ, ◌+◌, ◌≤◌, Bool, true, false, not, nat_eq, ◌||◌, ◌&&◌, List, [], ◌∷◌, length, map, sym, ◌∙◌, ap, refl, subst, arith}
+use Rattle.std.proofs.Common.{◌≡◌, ◌≢◌, ℕ, ◌≤◌, Bool, true, false, not, nat_eq, ◌||◌, ◌&&◌, List, [], ◌∷◌, length, map, sym, ◌∙◌, ap, refl, arith}
 use Rattle.std.specs.List.{flat_map}
 use Rattle.std.specs.List.Sorted.{IsStrictlySortedBy}
 use Rattle.std.specs.Ordering.{nat_cmp}
@@ -12,7 +12,7 @@ use Rattle.std.proofs.lemmas.List.Kept.{IsStrictlySortedBy-filter}
 use Rattle.complex_core.specs.Labels.{has, holds, with, without, face_cmp}
 use Rattle.complex_core.specs.Rising.{rising}
 use Rattle.complex_core.specs.Complexes.{ComplexView, IsComplex, over, is_held}
-use Rattle.complex_core.specs.Links.{less, link}
+use Rattle.complex_core.specs.Links.{less}
 use Rattle.complex_core.specs.Maps.{used}
 use Rattle.complex_core.proofs.Sets.{above_head, above_tail, above_cons, sorted_none, sorted_rising, not_among, among_head, length-put_new}
 use Rattle.complex_core.proofs.Laws.{both_ways, either, has-with, has-without, holds_has, holds_each, listed, listed-among, listed-filter, listed-rising, same_lists, sorted_without, nat_eq_is, nat_eq_same, or_left, or_right}
@@ -20,9 +20,8 @@ use Rattle.complex_core.proofs.Members.{has-rising, with_back, without_has, with
 use Rattle.complex_core.proofs.SubsetLists.{clash, map_from, map_back, part_is_face}
 use Rattle.complex_core.proofs.SetLists.{found_set, pure_at}
 use Rattle.pseudo_test.specs.Ridges.{IsRidge, Closed, count}
-use Rattle.pseudo_test.specs.Chains.{StronglyConnected}
 use Rattle.pseudo_test.proofs.Subsets.{holds_less, without_swap}
-use Rattle.link_check.specs.BadLinks.{HasLink, NoneIsBad}
+use Rattle.link_check.specs.BadLinks.{HasLink}
 use Rattle.link_check.specs.Vertices.{vertex_link, VertexLinksClosed, GoodLinksLaw}
 
 -- ---- a used label is a face with a link

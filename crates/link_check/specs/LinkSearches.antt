@@ -1,5 +1,5 @@
 -- What searches of the links of all vertices come to.
-use Rattle.std.specs.Prelude.{◌≡◌, true, false, ℕ, ◌+◌, ◌<◌, List, [], ◌∷◌, ◌++◌, length, map}
+use Rattle.std.specs.Prelude.{◌≡◌, true, false, ℕ, ◌+◌, ◌<◌, ◌≤◌, List, [], ◌∷◌, ◌++◌, length, map}
 use Rattle.std.specs.List.{AllByRecursion}
 use Rattle.std.specs.List.Sorted.{IsStrictlySortedBy}
 use Rattle.std.specs.Ordering.{nat_cmp}
@@ -27,10 +27,11 @@ pub record CanSearchLinks (k : ComplexView) : Type 0 where
   pub good : NoneIsBad k
   pub labels : UsesAtMost 60000 k
 
--- these flips show that the link of a vertex is a sphere
+-- these flips show that the link of a vertex is a sphere: not too many more than it has facets
 pub record ShowsLink (k : ComplexView) (v : ℕ) (flips : List Flip) : Type 0 where
   pub faces : AllByRecursion OfFaces flips
   pub leads : SphereCert (vertex_link k v) flips
+  pub few : length flips ≤ length (vertex_link k v).facets + 2500000
   pub labels : AllByRecursion (FlipAtMost 61025) flips
 
 -- a list of flips for each vertex, rising

@@ -9,16 +9,12 @@ ghost use Rattle.link_check.specs.Flags.{flag_cmp, flags_of, flags, flags_at};
 use complex_core::{Complex, Face};
 use std::alloc::{AllocError, Global};
 
-// A face, and a facet that contains it.
-pub(crate) type Flag = (Face, Face);
+/// A face, and a facet that contains it.
+pub type Flag = (Face, Face);
 
-// The flags of the faces of one size, rising by faces and then by facets. So those of one face are
-// a run, and all its facets stand in it: nothing else is looked at for its link.
-pub(crate) fn all_flags(
-    alloc: Global,
-    complex: &Complex,
-    size: usize,
-) -> Result<Vec<Flag>, AllocError>
+/// The flags of the faces of one size, rising by faces and then by facets. So those of one face are
+/// a run, and all its facets stand in it: nothing else is looked at for its link.
+pub fn all_flags(alloc: Global, complex: &Complex, size: usize) -> Result<Vec<Flag>, AllocError>
     ensures flags { IfOk result (λ v. v.items ≡ flags size complex.now.facets) }
     ensures rising { IfOk result (λ v. IsStrictlySortedBy flag_cmp v.items) }
     ensures complex { IsComplex complex.now }

@@ -5,9 +5,8 @@ mod bad;
 mod flags;
 mod laws;
 mod link_search;
-#[cfg(test)]
-mod tests;
 
 pub use bad::{BadLink, LinkFact, bad_link};
+pub use flags::{Flag, all_flags};
 pub use laws::{bad_link_law, good_links_law, vertex_links_closed};
-pub use link_search::{Links, all_links};
+pub use link_search::{Links, file, link_of, links_of};

@@ -7,7 +7,7 @@ use Rattle.complex_core.specs.Maps.{used, greatest}
 use Rattle.flip_rules.specs.declared.flip.Flip.{Flip}
 use Rattle.sphere_search.specs.Searches.{UsesAtMost, FlipAtMost, ShowsSphere}
 
-greatest_small : (n : ℕ) (xs : List ℕ) → AllByRecursion (λ x. x ≤ n) xs → greatest xs ≤ n
+pub greatest_small : (n : ℕ) (xs : List ℕ) → AllByRecursion (λ x. x ≤ n) xs → greatest xs ≤ n
 greatest_small n xs h = at xs (length xs - 1) h
   where
     at : (xs : List ℕ) (i : ℕ) → AllByRecursion (λ x. x ≤ n) xs → slice_index xs i ≤ n

@@ -1,13 +1,11 @@
--- What a search for flips to the boundary of a simplex needs, and what it answers.
-use Rattle.std.specs.Prelude.{◌≡◌, ℕ, ◌+◌, ◌≤◌, List, length}
+-- What a search for flips to the boundary of a simplex answers.
+use Rattle.std.specs.Prelude.{ℕ, ◌+◌, ◌≤◌, List, length}
 use Rattle.std.specs.List.{AllByRecursion}
 use Rattle.complex_core.specs.Complexes.{ComplexView}
 use Rattle.complex_core.specs.Maps.{used, greatest}
 use Rattle.flip_rules.specs.Certificates.{SphereCert}
 use Rattle.flip_rules.specs.Flips.{OfFaces}
 use Rattle.flip_rules.specs.declared.flip.Flip.{Flip}
-use Rattle.pseudo_test.specs.Ridges.{Closed}
-use Rattle.pseudo_test.specs.Chains.{StronglyConnected}
 use Rattle.sphere_search.specs.declared.search.Searched.{Searched}
 use Rattle.sphere_search.specs.declared.search.Searched.TheVariants.{Found, Gave}
 
@@ -19,13 +17,6 @@ UsesAtMost n k = AllByRecursion (λ x. x ≤ n) (used k.facets)
 pub record FlipAtMost (n : ℕ) (f : Flip) : Type 0 where
   pub first : AllByRecursion (λ x. x ≤ n) f.a
   pub second : AllByRecursion (λ x. x ≤ n) f.b
-
--- a complex that can be searched
-pub record CanSearch (k : ComplexView) : Type 0 where
-  pub closed : Closed k.facets
-  pub strong : StronglyConnected k.facets
-  pub dim : 1 ≤ k.dim
-  pub labels : UsesAtMost 64511 k
 
 -- flips that show that the complex is a sphere: not too many more than it has facets, and with at most 1,024 new labels behind its greatest
 pub record ShowsSphere (k : ComplexView) (flips : List Flip) : Type 0 where

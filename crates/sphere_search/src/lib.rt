@@ -1,8 +1,8 @@
-//! What a search for flips to the boundary of a simplex is, whatever the way it goes.
+//! What a search for flips to the boundary of a simplex comes to, whatever the way it goes.
 #![tactic(auto)]
 
 mod law;
 mod search;
 
 pub use law::labels_law;
-pub use search::{Searched, SphereSearch};
+pub use search::Searched;

@@ -1,0 +1,6 @@
+mod Limits
+mod Lists
+mod OpenLinks
+mod ReadAgain
+mod Searched
+pub mod Laws

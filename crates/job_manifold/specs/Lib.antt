@@ -1,0 +1,4 @@
+-- What the job `manifold` answers.
+pub mod Texts
+pub mod Answers
+pub mod Laws

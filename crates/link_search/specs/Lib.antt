@@ -1,0 +1,2 @@
+-- Searches of links with the workers of rounds.
+pub mod Counts
