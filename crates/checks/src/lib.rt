@@ -9,6 +9,10 @@ mod flips;
 #[cfg(test)]
 mod isomorphisms;
 #[cfg(test)]
+mod journals;
+#[cfg(test)]
+mod links;
+#[cfg(test)]
 mod local_flips;
 #[cfg(test)]
 mod made;

@@ -7,7 +7,7 @@ use Rattle.job_answer.proofs.Meanings.{same_answer, not_bad}
 use Rattle.job_answer.specs.declared.status.Status.{Status}
 use Rattle.job_answer.specs.declared.status.Status.TheVariants.{Yes, No, Undecided, Usage, BadInput}
 use Rattle.job_run.specs.Usage.{usage_line}
-use Rattle.job_run.specs.Jobs.{IsJob, NamesNoJob, AsksForSearches, meaning_of}
+use Rattle.job_run.specs.Jobs.{IsJob, NamesNoJob, AsksForSearches, TakesNothing, meaning_of, taken_by}
 use Rattle.job_run.specs.Answers.{MayEnd, AnswerIsOne, AnswerIsOfJob, IsVerdict, EndsJob, FitsWords, RefusesWords}
 use Rattle.job_run.specs.declared.job.Job.{Job}
 use Rattle.job_run.specs.declared.job.Job.TheVariants as job
@@ -19,13 +19,13 @@ use Rattle.job_run.proofs.Jobs.{one_job, lawful_of, nothing_of, undecided_job, s
 
 pub answer_is_of_job : AnswerIsOfJob
 answer_is_of_job words bytes j s xs p n (inl a) = absurd (a.other j n)
-answer_is_of_job words bytes j s xs p n (inr a) = let P : Job → Type 0 = λ i. Answers (meaning_of i) bytes s xs p in subst P (one_job words a.job j a.named n) a.answer
+answer_is_of_job words bytes j s xs p n (inr a) = let P : Job → Type 0 = λ i. Answers (meaning_of i) (taken_by i bytes) s xs p in subst P (one_job words a.job j a.named n) a.answer
 
 pub answer_is_one : AnswerIsOne
 answer_is_one words bytes s t xs ys p q d (inl a) (inl b) = record { statuses = a.is_usage ∙ sym b.is_usage; texts = a.says ∙ sym b.says; reports = a.reports ∙ sym b.reports }
 answer_is_one words bytes s t xs ys p q d (inl a) (inr b) = absurd (a.other b.job b.named)
 answer_is_one words bytes s t xs ys p q d (inr a) (inl b) = absurd (b.other a.job a.named)
-answer_is_one words bytes s t xs ys p q d (inr a) (inr b) = same_answer (meaning_of a.job) bytes s t xs ys p q (lawful_of a.job) (d a.job a.named) a.answer (answer_is_of_job words bytes a.job t ys q a.named (inr b))
+answer_is_one words bytes s t xs ys p q d (inr a) (inr b) = same_answer (meaning_of a.job) (taken_by a.job bytes) s t xs ys p q (lawful_of a.job) (d a.job a.named) a.answer (answer_is_of_job words bytes a.job t ys q a.named (inr b))
 
 -- ---- what is judged ends as its job does
 
@@ -86,3 +86,7 @@ silent_words words s xs p (inr a) t o = end_silent words a.job s p a.named t o a
 pub begun_usage : (old new : Option (List ℕ)) (words : List (List ℕ)) (s : Status) (xs : List ℕ) (p : JobReport) → FitsWords words s xs p → NamesNoJob words → AppendsPrefix old new xs → AppendsPrefix old new usage_line
 begun_usage old new words s xs p (inl a) n w = let P : List ℕ → Type 0 = λ text. AppendsPrefix old new text in subst P a.says w
 begun_usage old new words s xs p (inr a) n w = absurd (n a.job a.named)
+
+-- words that ask for no job ask for none that takes an input
+pub nothing_taken : (words : List (List ℕ)) → NamesNoJob words → TakesNothing words
+nothing_taken words n j asks = absurd (n j asks)

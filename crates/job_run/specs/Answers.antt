@@ -5,11 +5,12 @@ use Rattle.std.specs.Io.KnownBytes.{Appends}
 use Rattle.flip_io.specs.Outcomes.{AppendsPrefix}
 use Rattle.round_run.specs.Gates.{all_quits_at}
 use Rattle.equal_search.specs.Comparing.{quits_of_both}
+use Rattle.link_check.specs.LinkSearches.{all_quits}
 use Rattle.job_answer.specs.Meanings.{Answers, IsInput as IsInputOf, Same}
 use Rattle.job_answer.specs.declared.status.Status.{Status}
 use Rattle.job_answer.specs.declared.status.Status.TheVariants.{Yes, No, Undecided, Usage, BadInput, ReadFault, WriteFault, NoMemory}
 use Rattle.job_run.specs.Usage.{usage_line}
-use Rattle.job_run.specs.Jobs.{IsJob, NamesNoJob, meaning_of}
+use Rattle.job_run.specs.Jobs.{IsJob, NamesNoJob, meaning_of, taken_by}
 use Rattle.job_run.specs.declared.job.Job.{Job}
 use Rattle.job_run.specs.declared.report.JobReport.{JobReport}
 use Rattle.job_run.specs.declared.report.JobReport.TheVariants as report
@@ -27,18 +28,18 @@ pub record IsUsage (words : List (List ℕ)) (status : Status) (text : List ℕ)
 pub record IsJobAnswer (words : List (List ℕ)) (bytes : List ℕ) (status : Status) (text : List ℕ) (found : JobReport) : Type 0 where
   pub job : Job
   pub named : IsJob words job
-  pub answer : Answers (meaning_of job) bytes status text found
+  pub answer : Answers (meaning_of job) (taken_by job bytes) status text found
 
 abbrev pub IsAnswer : List (List ℕ) → List ℕ → Status → List ℕ → JobReport → Type 0
 IsAnswer words bytes status text found = IsUsage words status text found ⊎ IsJobAnswer words bytes status text found
 
 -- what is written of an answer that a verdict stands behind: the headline of its job
 abbrev pub Headline : Job → List ℕ → Status → List ℕ → JobReport → Type 0
-Headline j = (meaning_of j).headline
+Headline j bytes = (meaning_of j).headline (taken_by j bytes)
 
--- the bytes are an input of the job
+-- the bytes are an input of the job; any are for one that takes none
 abbrev pub IsInput : Job → List ℕ → Type 0
-IsInput j bytes = IsInputOf (meaning_of j) bytes
+IsInput j bytes = IsInputOf (meaning_of j) (taken_by j bytes)
 
 -- a verdict of the job
 abbrev pub MayEnd : Job → Status → Type 0
@@ -50,7 +51,7 @@ FitsJob j = (meaning_of j).fits
 
 -- ---- laws
 
--- the words ask for a job whose inputs have one answer each, as `sphere` has only without rounds, and `equiv` isn't said to have
+-- the words ask for a job whose inputs have one answer each, as `sphere`, `equiv` and `drill` have without rounds, and `manifold` isn't said to have
 abbrev pub Determined : List (List ℕ) → Type 0
 Determined words = (j : Job) → IsJob words j → (meaning_of j).is_fixed
 
@@ -60,7 +61,7 @@ AnswerIsOne = (words : List (List ℕ)) (bytes : List ℕ) (s t : Status) (xs ys
 
 -- an answer to words that ask for a job is that job's
 abbrev pub AnswerIsOfJob : Type 0
-AnswerIsOfJob = (words : List (List ℕ)) (bytes : List ℕ) (j : Job) (s : Status) (xs : List ℕ) (p : JobReport) → IsJob words j → IsAnswer words bytes s xs p → Answers (meaning_of j) bytes s xs p
+AnswerIsOfJob = (words : List (List ℕ)) (bytes : List ℕ) (j : Job) (s : Status) (xs : List ℕ) (p : JobReport) → IsJob words j → IsAnswer words bytes s xs p → Answers (meaning_of j) (taken_by j bytes) s xs p
 
 -- ---- what an answer says of the words alone
 
@@ -90,6 +91,7 @@ quits_of report.Nothing = λ i. 0
 quits_of (report.Trace last) = λ i. 0
 quits_of (report.Sphere r) = all_quits_at r.rounds
 quits_of (report.Equal r s) = quits_of_both r s
+quits_of (report.Links left) = all_quits (λ r. all_quits_at r.rounds) left.items
 
 -- ---- what was written
 

@@ -14,6 +14,8 @@ pub enum JobReport {
     Sphere(Report),
     /// Searches from two complexes that differ in no fact that flips keep.
     Equal(Report, Report),
+    /// For some vertices, rising, a search from the link that found no flips.
+    Links(Vec<(u16, Report)>),
 }
 
 /// What a job ends with.

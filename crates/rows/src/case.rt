@@ -12,6 +12,8 @@ pub struct Case {
     pub title: String,
     /// The words of each run.
     pub runs: Vec<Vec<String>>,
+    /// Whether all runs must be answered alike.
+    pub alike: bool,
     /// How the source gives the input.
     pub giving: Giving,
     /// How the sink takes the answer.
@@ -81,6 +83,8 @@ pub enum Part {
     Text(Vec<u8>),
     /// A line of this word and a number.
     Number(String),
+    /// A line of this word and at least one number.
+    Numbers(String),
 }
 
 /// Words that say yes to a text with the rest of an answer behind it.

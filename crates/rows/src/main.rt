@@ -9,14 +9,15 @@
 //! - `case TITLE` begins a case, which has these parts in this order:
 //!     - `words WORDS`, once or more: each line is one run of the case. The words have a blank between them. In a word `\s` is a
 //!       blank, and `\e` nothing, so that `\e` is an empty word; `words` alone says no words.
+//!     - `alike`, if need be: all runs of the case must write the same bytes with the same status, beside being right.
 //!     - `source PIECE CALL ..`, if need be: how many bytes the source gives at most for a call, and the calls that fail,
 //!       counted from 1.
 //!     - `sink PIECE ROOM CALL ..`, if need be: the same for the sink, which has room for so many bytes.
 //!     - `input`, and a text behind it, or none. `cut COUNT` leaves so many bytes of it, `pad COUNT` or `pad COUNT BYTE` fills it up
 //!       to so many bytes, with blanks or with that byte.
 //!     - `answer STATUS`, once or more: an answer that is right, and its text, in which `? WORD` is a line of that word and a
-//!       number. Behind it may stand `then WORDS` and a text: the rest of what was written, put behind this text, must be
-//!       answered by these words with status 0 and a first line `yes`.
+//!       number, and `?? WORD` one of that word and some numbers. Behind it may stand `then WORDS` and a text: the rest of what
+//!       was written, put behind this text, must be answered by these words with status 0 and a first line `yes`.
 #![tactic(auto)]
 
 mod case;

@@ -38,6 +38,15 @@ pub fn read_runs(alloc: Global, lines: &mut Lines<'_>) -> Result<Vec<Vec<String>
     }
 }
 
+/// Reads whether all runs must be answered alike.
+pub fn read_alike(lines: &mut Lines<'_>) -> Result<bool, Fault> {
+    match lines.take("alike") {
+        Some(behind) if behind.is_empty() => Ok(true),
+        Some(_) => Err(lines.fault("nothing stands behind `alike`")),
+        None => Ok(false),
+    }
+}
+
 // The first word of a line, and the words behind it.
 fn first_word(line: &str) -> (&str, &str) {
     line.split_once(' ').unwrap_or((line, ""))
@@ -133,10 +142,13 @@ fn read_parts(alloc: Global, lines: &mut Lines<'_>, texts: &[Named]) -> Result<V
     for _ in 0..lines.count() {
         let text = read_text(alloc, lines, texts)?;
         parts.push(Part::Text(text))?;
-        let Some(word) = lines.take("?") else {
+        if let Some(word) = lines.take("?") {
+            parts.push(Part::Number(String::from_str(alloc, word)?))?;
+        } else if let Some(word) = lines.take("??") {
+            parts.push(Part::Numbers(String::from_str(alloc, word)?))?;
+        } else {
             break;
-        };
-        parts.push(Part::Number(String::from_str(alloc, word)?))?;
+        }
     }
     Ok(parts)
 }

@@ -16,13 +16,15 @@ pub struct Said {
     pub text: Vec<u8>,
 }
 
-/// A run of a case with an answer that isn't right.
+/// A run of a case with an answer that isn't right, or isn't that of the first run where it must be.
 #[derive(Drop)]
 pub struct Difference {
     /// How many runs of the case stand before it.
     pub run: usize,
     /// The answer.
     pub said: Said,
+    /// What the first run was answered, where the answer is right and only differs from this.
+    pub first: Option<Said>,
 }
 
 // Does the job of some words, with gates that let every try go on.
@@ -51,15 +53,27 @@ fn sink_of(alloc: Global, taking: &Taking) -> Result<MemSink, AllocError> {
     MemSink::new(alloc, taking.room, taking.piece, taking.fails.clone()?)
 }
 
-// What stands behind a blank, a number without a needless zero and a line feed.
+// What stands behind a blank and a number without a needless zero.
 fn behind_number(text: &[u8]) -> Option<&[u8]> {
     let text = text.strip_prefix(b" ")?;
     let count = text.iter().position(|byte| !byte.is_ascii_digit())?;
     let (digits, rest) = text.split_at(count);
     match digits {
         [] | [b'0', _, ..] => None,
-        _ => rest.strip_prefix(b"\n"),
+        _ => Some(rest),
     }
+}
+
+// What stands behind some numbers, each behind a blank, and a line feed.
+fn behind_numbers(text: &[u8]) -> Option<&[u8]> {
+    let mut rest = behind_number(text)?;
+    for _ in 0..text.len() {
+        if let Some(behind) = rest.strip_prefix(b"\n") {
+            return Some(behind);
+        }
+        rest = behind_number(rest)?;
+    }
+    None
 }
 
 // What stands behind these parts.
@@ -68,7 +82,10 @@ fn behind_parts<'t>(parts: &[Part], text: &'t [u8]) -> Option<&'t [u8]> {
     for part in parts {
         rest = match part {
             Part::Text(bytes) => rest.strip_prefix(bytes.as_slice())?,
-            Part::Number(word) => behind_number(rest.strip_prefix(word.as_bytes())?)?,
+            Part::Number(word) => {
+                behind_number(rest.strip_prefix(word.as_bytes())?)?.strip_prefix(b"\n")?
+            }
+            Part::Numbers(word) => behind_numbers(rest.strip_prefix(word.as_bytes())?)?,
         };
     }
     Some(rest)
@@ -123,18 +140,41 @@ fn is_right<R: Threads + Sync>(
     Ok(false)
 }
 
-/// The first run of a case whose answer isn't right, if there is one.
+// Whether two answers have the same bytes and the same status.
+fn same(one: &Said, other: &Said) -> bool {
+    one.status == other.status && one.text == other.text
+}
+
+// What the words of a run are answered.
+fn ask_case<R: Threads + Sync>(
+    rt: &R,
+    alloc: Global,
+    case: &Case,
+    words: &[String],
+) -> Result<Said, AllocError> {
+    let source = source_of(case.input.clone()?, &case.giving)?;
+    let sink = sink_of(alloc, &case.taking)?;
+    ask(rt, alloc, words, source, sink)
+}
+
+/// The first run of a case whose answer isn't right, or isn't that of the first run where all must be
+/// alike, if there is one.
 pub fn first_difference<R: Threads + Sync>(
     rt: &R,
     alloc: Global,
     case: &Case,
 ) -> Result<Option<Difference>, AllocError> {
+    let mut first = None;
     for (run, words) in case.runs.iter().enumerate() {
-        let source = source_of(case.input.clone()?, &case.giving)?;
-        let sink = sink_of(alloc, &case.taking)?;
-        let said = ask(rt, alloc, words, source, sink)?;
+        let said = ask_case(rt, alloc, case, words)?;
         if !is_right(rt, alloc, &said, &case.answers)? {
-            return Ok(Some(Difference { run, said }));
+            let first = None;
+            return Ok(Some(Difference { run, said, first }));
+        }
+        match &first {
+            None => first = Some(said),
+            Some(before) if !case.alike || same(before, &said) => {}
+            Some(_) => return Ok(Some(Difference { run, said, first })),
         }
     }
     Ok(None)

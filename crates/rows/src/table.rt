@@ -3,7 +3,7 @@
 use crate::case::Case;
 use crate::fault::Fault;
 use crate::line::{Lines, lines_of};
-use crate::parts::{read_answers, read_giving, read_input, read_runs, read_taking};
+use crate::parts::{read_alike, read_answers, read_giving, read_input, read_runs, read_taking};
 use crate::text::{Named, read_named};
 use std::alloc::Global;
 
@@ -20,6 +20,7 @@ fn read_case(
     let number = lines.number();
     let title = String::from_str(alloc, title)?;
     let runs = read_runs(alloc, lines)?;
+    let alike = read_alike(lines)?;
     let giving = read_giving(alloc, lines)?;
     let taking = read_taking(alloc, lines)?;
     let input = read_input(alloc, lines, texts)?;
@@ -28,6 +29,7 @@ fn read_case(
         number,
         title,
         runs,
+        alike,
         giving,
         taking,
         input,

@@ -1,7 +1,7 @@
 // Tells a difference, with texts as a table has them.
 
 use crate::case::{Answer, Case, Part};
-use crate::run::Difference;
+use crate::run::{Difference, Said};
 use std::alloc::Global;
 use std::io;
 
@@ -24,12 +24,36 @@ fn tell_answer(rt: &impl Print, alloc: Global, answer: &Answer) -> io::Result<()
         match part {
             Part::Text(bytes) => tell_text(rt, alloc, bytes)?,
             Part::Number(word) => println!(rt; "? {word}")?,
+            Part::Numbers(word) => println!(rt; "?? {word}")?,
         }
     }
     match &answer.check {
         Some(check) => println!(rt; "then {:?}", check.words),
         None => Ok(()),
     }
+}
+
+// Tells what words were answered.
+fn tell_said(rt: &impl Print, alloc: Global, said: &Said) -> io::Result<()> {
+    println!(rt; "got {}", said.status)?;
+    tell_text(rt, alloc, &said.text)
+}
+
+// Tells what is wanted: the answer of the first run, or one that would be right.
+fn tell_wanted(
+    rt: &impl Print,
+    alloc: Global,
+    case: &Case,
+    first: &Option<Said>,
+) -> io::Result<()> {
+    if let Some(said) = first {
+        println!(rt; "wanted as the first run")?;
+        return tell_said(rt, alloc, said);
+    }
+    for answer in &case.answers {
+        tell_answer(rt, alloc, answer)?;
+    }
+    Ok(())
 }
 
 /// Tells which case differs, what it wants, and what it got.
@@ -43,9 +67,6 @@ pub fn tell_difference(
     if let Some(words) = case.runs.get(difference.run) {
         println!(rt; "words {words:?}")?;
     }
-    for answer in &case.answers {
-        tell_answer(rt, alloc, answer)?;
-    }
-    println!(rt; "got {}", difference.said.status)?;
-    tell_text(rt, alloc, &difference.said.text)
+    tell_wanted(rt, alloc, case, &difference.first)?;
+    tell_said(rt, alloc, &difference.said)
 }

@@ -1,5 +1,5 @@
 use Rattle.std.proofs.Common.{map, string_bytes, rules}
-use Rattle.job_run.proofs.Answering.{verdict_words, undecided_words, silent_words, refused_words, asking_words, begun_usage}
+use Rattle.job_run.proofs.Answering.{verdict_words, undecided_words, silent_words, refused_words, asking_words, begun_usage, nothing_taken}
 use Rattle.job_run.proofs.Known.{answer_is_known, begun_is_known, headline_is_known, complete_is_known}
 use Rattle.job_run.proofs.run.run_job.Goals as goal
 
@@ -38,3 +38,6 @@ returns-in-Ok-write_all-clause-verdict g c = λ j n v. (verdict_words (map strin
 
 pub returns-in-Ok-clause-report : goal.returns-in-Ok-clause-report
 returns-in-Ok-clause-report g c = λ t o. silent_words (map string_bytes c.args.words.now) c.in-Ok.field-0.status c.in-Ok.field-0.text.items c.in-Ok.field-0.report (search rules) t o
+
+pub returns-in-Err-ReadFault-clause-refused : goal.returns-in-Err-ReadFault-clause-refused
+returns-in-Err-ReadFault-clause-refused g c = λ n. absurd (c.prepare.ensures.named (nothing_taken (map string_bytes c.args.words.now) n) (search rules))
