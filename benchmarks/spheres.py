@@ -6,11 +6,14 @@ stacked      a sphere: the boundary of a simplex, grown by stellar subdivisions 
 subdivided   a sphere: the same, grown by stellar subdivisions of drawn faces of drawn sizes
 cyclic       a sphere of dimension 3: the boundary of a cyclic polytope, in which any two vertices are joined by an edge
 product      a product of DIM polygons of about equal length, each cell of it cut into DIM! simplices
+two-spheres  a product of two stacked spheres of about equally many facets, the dimensions of which differ by one at most
+torus-sphere a product of the torus on seven labels with a stacked sphere. DIM is 3 or more
 join         a sphere: the join of (DIM + 1) / 2 polygons of about equal length, with two points more where DIM is even. Each edge of a
              polygon lies in many facets, so no flip leaves fewer of them, and a descent stops at once
 drawn        drawn facets
 """
 import itertools
+import math
 import random
 import sys
 
@@ -19,13 +22,17 @@ from complexes import Complex
 LABELS = 4096
 
 
-def stacked(dim, facets, draw):
+def stacked_sphere(dim, facets, draw):
     complex = Complex(dim)
     label = dim + 2
     while len(complex.facets) < facets:
         label += 1
         complex.flip(draw.choice(complex.facets), frozenset([label]))
-    return complex.text()
+    return complex
+
+
+def stacked(dim, facets, draw):
+    return stacked_sphere(dim, facets, draw).text()
 
 
 def subdivided(dim, facets, draw):
@@ -66,6 +73,34 @@ def product(dim, facets, draw):
     return text(made)
 
 
+def product_of(first, second):
+    """The product of two complexes, each cell of it cut along the paths that rise in one of the two at a time."""
+    width = max(map(max, second))
+    made = set()
+    for one, other in itertools.product(map(sorted, first), map(sorted, second)):
+        steps = len(one) + len(other) - 2
+        for rises in itertools.combinations(range(steps), len(one) - 1):
+            at, beside, path = 0, 0, [(0, 0)]
+            for step in range(steps):
+                at, beside = (at + 1, beside) if step in rises else (at, beside + 1)
+                path.append((at, beside))
+            made.add(tuple((one[at] - 1) * width + other[beside] for at, beside in path))
+    return text(made)
+
+
+def two_spheres(dim, facets, draw):
+    low, high = dim // 2, dim - dim // 2
+    each = math.isqrt(facets // math.comb(dim, low))
+    # A subdivision of a facet adds as many facets as the dimension.
+    return product_of(stacked_sphere(low, each - low + 1, draw).facets, stacked_sphere(high, each - high + 1, draw).facets)
+
+
+def torus_sphere(dim, facets, draw):
+    torus = [[(at + step) % 7 + 1 for step in steps] for at in range(7) for steps in ((0, 1, 3), (0, 2, 3))]
+    each = facets // (14 * math.comb(dim, 2))
+    return product_of(torus, stacked_sphere(dim - 2, each - (dim - 2) + 1, draw).facets)
+
+
 def cyclic(dim, facets, draw):
     vertices = 5
     while vertices * (vertices - 3) // 2 < facets:
@@ -97,7 +132,16 @@ def drawn(dim, facets, draw):
 
 def main():
     kind, dim, facets, seed = sys.argv[1], *map(int, sys.argv[2:])
-    makers = {"stacked": stacked, "subdivided": subdivided, "cyclic": cyclic, "product": product, "join": join, "drawn": drawn}
+    makers = {
+        "stacked": stacked,
+        "subdivided": subdivided,
+        "cyclic": cyclic,
+        "product": product,
+        "two-spheres": two_spheres,
+        "torus-sphere": torus_sphere,
+        "join": join,
+        "drawn": drawn,
+    }
     sys.stdout.write(makers[kind](dim, facets, random.Random(seed)))
 
 
