@@ -1,5 +1,5 @@
 -- The laws of the job `manifold`.
-use Rattle.std.proofs.Common.{◌≡◌, ℕ, ◌⊎◌, inl, inr, List, Option, sym, ◌∙◌}
+use Rattle.std.proofs.Common.{◌≡◌, ℕ, inl, inr, List, Option, None, sym, ◌∙◌}
 use Rattle.complex_core.specs.Complexes.{ComplexView}
 use Rattle.complex_core.specs.Links.{link}
 use Rattle.link_check.specs.BadLinks.{IsGoodLink, Lacks}
@@ -8,12 +8,13 @@ use Rattle.link_check.specs.declared.bad.LinkFact.TheVariants as fact
 use Rattle.anneal_plan.specs.Numbers.{Numbers}
 use Rattle.job_answer.specs.Alone.{complex_of}
 use Rattle.job_answer.specs.Meanings.{IsDone, Lawful}
-use Rattle.job_answer.specs.Statuses.{EndsSearch, HasVerdict}
 use Rattle.job_answer.proofs.Describing.{not_closed, not_strong}
 use Rattle.job_answer.proofs.Meanings.{by_read, input_done, verdict_done}
 use Rattle.job_answer.specs.declared.status.Status.{Status}
 use Rattle.job_answer.specs.declared.status.Status.TheVariants.{Yes, No, Undecided}
-use Rattle.job_manifold.specs.Answers.{FitsManifold, IsManifoldAnswer, LooksLikeManifold, Records, TellsFault, TellsManifold, TellsOpen, meaning}
+use Rattle.search_lines.specs.Ends.{MayEnd}
+use Rattle.search_lines.proofs.Ends.{end_verdict, fits_no, fits_undecided, fits_yes}
+use Rattle.job_manifold.specs.Answers.{FitsManifold, IsManifoldAnswer, LooksLikeManifold, Records, ReportsOpen, TellsFault, TellsManifold, TellsOpen, meaning}
 use Rattle.job_manifold.specs.Laws.{NoIsExact, NoIsSound, UndecidedTellsSearches, YesIsCertified}
 
 -- ---- the statuses differ
@@ -30,25 +31,16 @@ not_both s y u = let z : Yes ≡ Undecided = sym y ∙ u in cc
 -- ---- what is reported, and how it ends
 
 answer_fits : (plan : Numbers) (k : ComplexView) (s : Status) (xs : List ℕ) (p : Option Records) → IsManifoldAnswer plan k s xs p → FitsManifold plan s p
-answer_fits plan k s xs p (inl (inl a)) = record { yes = λ y. a.reports; no = λ n. a.reports; undecided = λ u. absurd (not_open s a.is_no u) }
-answer_fits plan k s xs p (inl (inr a)) = record { yes = λ y. a.reports; no = λ n. a.reports; undecided = λ u. absurd (not_open s a.is_no u) }
-answer_fits plan k s xs p (inr (inl a)) = record { yes = λ y. a.all.reports; no = λ n. a.all.reports; undecided = λ u. absurd (not_both s a.all.is_yes u) }
-answer_fits plan k s xs p (inr (inr a)) = record {
-  yes = λ y. absurd (not_both s y a.some.is_undecided);
-  no = λ n. absurd (not_open s n a.some.is_undecided);
-  undecided = λ u. record { left = a.some.left; reports = a.some.reports; complex = k; looks = a.looks; stays = a.some.stays };
-}
+answer_fits plan k s xs p (inl (inl a)) = fits_no None (λ found. found ≡ None) (ReportsOpen plan) s p a.is_no a.reports
+answer_fits plan k s xs p (inl (inr a)) = fits_no None (λ found. found ≡ None) (ReportsOpen plan) s p a.is_no a.reports
+answer_fits plan k s xs p (inr (inl a)) = fits_yes None (λ found. found ≡ None) (ReportsOpen plan) s p a.all.is_yes a.all.reports
+answer_fits plan k s xs p (inr (inr a)) = fits_undecided None (λ found. found ≡ None) (ReportsOpen plan) s p a.some.is_undecided (record { left = a.some.left; reports = a.some.reports; complex = k; looks = a.looks; stays = a.some.stays })
 
-answer_ends : (plan : Numbers) (k : ComplexView) (s : Status) (xs : List ℕ) (p : Option Records) → IsManifoldAnswer plan k s xs p → (s ≡ No) ⊎ EndsSearch s
+answer_ends : (plan : Numbers) (k : ComplexView) (s : Status) (xs : List ℕ) (p : Option Records) → IsManifoldAnswer plan k s xs p → MayEnd s
 answer_ends plan k s xs p (inl (inl a)) = inl a.is_no
 answer_ends plan k s xs p (inl (inr a)) = inl a.is_no
 answer_ends plan k s xs p (inr (inl a)) = inr (inl a.all.is_yes)
 answer_ends plan k s xs p (inr (inr a)) = inr (inr a.some.is_undecided)
-
-verdict : (s : Status) → (s ≡ No) ⊎ EndsSearch s → HasVerdict s
-verdict s (inl n) = inl (inr n)
-verdict s (inr (inl y)) = inl (inl y)
-verdict s (inr (inr u)) = inr u
 
 -- ---- what an answer to the bytes tells
 
@@ -94,7 +86,7 @@ done_open plan bytes s xs p d u = told d.answer
 pub lawful : (plan : Numbers) → Lawful (meaning plan)
 lawful plan = record {
   reads = by_read complex_of;
-  verdict = λ s h. verdict s h;
+  verdict = λ s h. end_verdict s h;
   ends = λ k s xs p a. answer_ends plan k s xs p a;
   fits = λ k s xs p a. answer_fits plan k s xs p a;
   headline = λ bytes s xs p h d. record { certificate = done_manifold plan bytes s xs p d; searched = done_open plan bytes s xs p d };

@@ -20,10 +20,10 @@ use Rattle.round_run.specs.Reports.{ReportView, ReportOk, IsUndecided}
 use Rattle.report_text.specs.Shown.{IsReported}
 use Rattle.job_answer.specs.Alone.{complex_of}
 use Rattle.job_answer.specs.Meanings.{Meaning, by}
-use Rattle.job_answer.specs.Statuses.{EndsSearch}
 use Rattle.job_answer.specs.declared.status.Status.{Status}
 use Rattle.job_answer.specs.declared.status.Status.TheVariants.{Yes, No, Undecided}
 use Rattle.job_replay.specs.Answers.{TellsCertified}
+use Rattle.search_lines.specs.Ends.{Fits, MayEnd}
 use Rattle.job_manifold.specs.Texts.{bad_text, certified, found_text, open_text, unclosed_text}
 
 -- for some vertices, the report of the search of the link
@@ -181,11 +181,9 @@ pub record ReportsOpen (plan : Numbers) (found : Option Records) : Type 0 where
   pub looks : LooksLikeManifold complex
   pub stays : StaysOpen complex plan left.items
 
--- what is reported with each verdict
-pub record FitsManifold (plan : Numbers) (status : Status) (found : Option Records) : Type 0 where
-  pub yes : status ≡ Yes → found ≡ None
-  pub no : status ≡ No → found ≡ None
-  pub undecided : status ≡ Undecided → ReportsOpen plan found
+-- what is reported with each verdict: nothing at Yes and No
+abbrev pub FitsManifold : Numbers → Status → Option Records → Type 0
+FitsManifold plan = Fits None (λ found. found ≡ None) (ReportsOpen plan)
 
 -- how many quits of each worker are reported, counted from 0
 abbrev pub quits_of : Option Records → ℕ → ℕ
@@ -201,7 +199,7 @@ meaning plan = record {
   reads = by complex_of;
   answers = IsManifoldAnswer plan;
   nothing = None;
-  may_end = λ status. (status ≡ No) ⊎ EndsSearch status;
+  may_end = MayEnd;
   fits = FitsManifold plan;
   is_fixed = ⊥;
   headline = ShowsManifold plan;

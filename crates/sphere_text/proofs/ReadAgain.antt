@@ -1,4 +1,4 @@
--- The text of a complex and of a certificate behind it is read again.
+-- The text of a complex and of a certificate behind it, of whatever kind, is read again.
 use Rattle.std.proofs.Common.{◌≡◌, ℕ, ◌+◌, List, [], ◌∷◌, ◌++◌, length, drop, Ok, refl, sym, ◌∙◌, ap, append_assoc, length-append, arith}
 use Rattle.std.proofs.lemmas.List.{drop_at}
 use Rattle.complex_core.specs.Complexes.{ComplexView}
@@ -11,13 +11,12 @@ use Rattle.facet_text.proofs.Again.{read_again}
 use Rattle.facet_text.proofs.LineLaws.{some_item}
 use Rattle.line_text.specs.Numbers.{line_start}
 use Rattle.line_text.proofs.Again.{feed_first}
-use Rattle.cert_text.specs.Statements.{Sphere}
+use Rattle.cert_text.specs.Statements.{Statement, Sphere, Equal, Manifold}
 use Rattle.cert_text.specs.Grammar.{certificate_at, header_at, body_at}
 use Rattle.cert_text.specs.Readings.{◌>>=◌}
-use Rattle.cert_text.specs.Writing.{text_of, AreFlips}
+use Rattle.cert_text.specs.Writing.{text_of, KeepsLimits}
 use Rattle.cert_text.proofs.Again.{certificate_again}
-use Rattle.flip_rules.specs.declared.flip.Flip.{Flip}
-use Rattle.sphere_text.specs.Texts.{certified, CertifiedIsRead}
+use Rattle.sphere_text.specs.Texts.{CertifiedIsRead}
 
 -- ---- a line feed before a certificate is passed over
 
@@ -36,29 +35,33 @@ after_feed bytes rest from here next =
 
 -- ---- the whole
 
-no_semicolon : (flips : List Flip) → to_semicolon (10 ∷ text_of (Sphere flips)) ≡ 0
+-- a certificate begins with no `;`
+no_semicolon : (c : Statement) → to_semicolon (10 ∷ text_of c) ≡ 0
 unfolding text_of has
-no_semicolon flips = refl
+no_semicolon (Sphere flips) = refl
+no_semicolon (Equal target flips pairs) = refl
+no_semicolon (Manifold lists) = refl
 
-complex_again : (k : ComplexView) (flips : List Flip) → facet.KeepsLimits k → complex_at (certified k flips) 0 ≡ Ok (k, length (facet.text_of k.facets))
-complex_again k flips keeps =
-    let after : List ℕ = 10 ∷ text_of (Sphere flips) in
-    let offset : length (facet.text_of k.facets) ≡ 0 + length (facet.text_of k.facets) + to_semicolon after = omega (arith, no_semicolon flips) in
+pub complex_again : (k : ComplexView) (c : Statement) → facet.KeepsLimits k → complex_at (facet.text_of k.facets ++ (10 ∷ text_of c)) 0 ≡ Ok (k, length (facet.text_of k.facets))
+complex_again k c keeps =
+    let after : List ℕ = 10 ∷ text_of c in
+    let offset : length (facet.text_of k.facets) ≡ 0 + length (facet.text_of k.facets) + to_semicolon after = omega (arith, no_semicolon c) in
     read_again [] after k keeps ∙ ap (λ (p : ℕ). Ok (k, p)) (sym offset)
 
-behind_complex : (k : ComplexView) (flips : List Flip) → AreFlips flips → certificate_at (certified k flips) (length (facet.text_of k.facets)) ≡ Ok (Sphere flips)
-behind_complex k flips good =
+pub behind_complex : (k : ComplexView) (c : Statement) → KeepsLimits c → certificate_at (facet.text_of k.facets ++ (10 ∷ text_of c)) (length (facet.text_of k.facets)) ≡ Ok c
+behind_complex k c good =
     let text : List ℕ = facet.text_of k.facets in
-    let rest : List ℕ = text_of (Sphere flips) in
+    let rest : List ℕ = text_of c in
     let fed : List ℕ = text ++ 10 ∷ [] in
-    let whole : certified k flips ≡ fed ++ rest = sym (append_assoc text (10 ∷ []) rest) in
+    let bytes : List ℕ = text ++ (10 ∷ rest) in
+    let whole : bytes ≡ fed ++ rest = sym (append_assoc text (10 ∷ []) rest) in
     let long : length text + 1 ≡ length fed = sym (length-append text (10 ∷ [])) in
-    let here : drop (length text) (certified k flips) ≡ 10 ∷ rest = drop_at text (10 ∷ rest) (length text) refl in
-    let next : drop (length text + 1) (certified k flips) ≡ rest = ap (drop (length text + 1)) whole ∙ drop_at fed rest (length text + 1) (sym long) in
-    after_feed (certified k flips) rest (length text) here next
+    let here : drop (length text) bytes ≡ 10 ∷ rest = drop_at text (10 ∷ rest) (length text) refl in
+    let next : drop (length text + 1) bytes ≡ rest = ap (drop (length text + 1)) whole ∙ drop_at fed rest (length text + 1) (sym long) in
+    after_feed bytes rest (length text) here next
     ∙ ap (λ (bs : List ℕ). certificate_at bs (length text + 1)) whole
     ∙ ap (certificate_at (fed ++ rest)) long
-    ∙ certificate_again fed (Sphere flips) good
+    ∙ certificate_again fed c good
 
 pub certified_is_read : CertifiedIsRead
-certified_is_read k flips keeps good = record { offset = length (facet.text_of k.facets); complex = complex_again k flips keeps; certificate = behind_complex k flips good }
+certified_is_read k flips keeps good = record { offset = length (facet.text_of k.facets); complex = complex_again k (Sphere flips) keeps; certificate = behind_complex k (Sphere flips) good }
